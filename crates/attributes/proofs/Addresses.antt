@@ -37,29 +37,29 @@ unmasked_port port port' small small' rest rest' e =
     sym (twice port cookie_half) ∙ ap (λ (x : ℕ). bit_xor x cookie_half) same ∙ twice port' cookie_half
 
 -- the cookie and a transaction id have 128 bits
-mask_bytes : (transaction_id : List ℕ) → ((i : ℕ) → get_or transaction_id i 0 < 256) → (i : ℕ) → slice_index (big_bytes 4 magic_cookie ++ transaction_id) i < 256
-mask_bytes transaction_id fit zero = omega arith
-mask_bytes transaction_id fit (suc zero) = omega arith
-mask_bytes transaction_id fit (suc (suc zero)) = omega arith
-mask_bytes transaction_id fit (suc (suc (suc zero))) = omega arith
-mask_bytes transaction_id fit (suc (suc (suc (suc i)))) = fit i
+mask_bytes : (tx : List ℕ) → ((i : ℕ) → get_or tx i 0 < 256) → (i : ℕ) → slice_index (big_bytes 4 magic_cookie ++ tx) i < 256
+mask_bytes tx fit zero = omega arith
+mask_bytes tx fit (suc zero) = omega arith
+mask_bytes tx fit (suc (suc zero)) = omega arith
+mask_bytes tx fit (suc (suc (suc zero))) = omega arith
+mask_bytes tx fit (suc (suc (suc (suc i)))) = fit i
 
-mask_fits : (transaction_id : List ℕ) → ((i : ℕ) → get_or transaction_id i 0 < 256) → ipv6_mask transaction_id < 256 ^ 16
+mask_fits : (tx : List ℕ) → ((i : ℕ) → get_or tx i 0 < 256) → ipv6_mask tx < 256 ^ 16
 unfolding ipv6_mask
-mask_fits transaction_id fit = big_from-lt 0 16 (big_bytes 4 magic_cookie ++ transaction_id) (mask_bytes transaction_id fit)
+mask_fits tx fit = big_from-lt 0 16 (big_bytes 4 magic_cookie ++ tx) (mask_bytes tx fit)
 
 -- two addresses of one value are one
-pub address_unique : (a b : Addr) (transaction_id value : List ℕ) → ((i : ℕ) → get_or transaction_id i 0 < 256) → IsAddressValue a transaction_id value → IsAddressValue b transaction_id value → a ≡ b
-address_unique (V4 ip port) (V4 ip' port') transaction_id value fit given e =
+pub address_unique : (a b : Addr) (tx value : List ℕ) → ((i : ℕ) → get_or tx i 0 < 256) → IsAddressValue a tx value → IsAddressValue b tx value → a ≡ b
+address_unique (V4 ip port) (V4 ip' port') tx value fit given e =
     let tail : big_bytes 2 (bit_xor port cookie_half) ++ xor_bytes 4 ip magic_cookie ≡ big_bytes 2 (bit_xor port' cookie_half) ++ xor_bytes 4 ip' magic_cookie = ap (drop 2) (sym given.spelled ∙ e.spelled) in
     let same = unmasked 4 ip ip' port port' magic_cookie given.fits e.fits (λ x lt. xor_lt 32 x magic_cookie lt (omega arith)) (ap (drop 2) tail) in
     λ i. V4 (same i) (unmasked_port port port' given.fits.small e.fits.small _ _ tail i)
-address_unique (V6 ip port) (V6 ip' port') transaction_id value fit given e =
-    let tail : big_bytes 2 (bit_xor port cookie_half) ++ xor_bytes 16 ip (ipv6_mask transaction_id) ≡ big_bytes 2 (bit_xor port' cookie_half) ++ xor_bytes 16 ip' (ipv6_mask transaction_id) = ap (drop 2) (sym given.spelled ∙ e.spelled) in
-    let same = unmasked 16 ip ip' port port' (ipv6_mask transaction_id) given.fits e.fits (λ x lt. xor_lt 128 x (ipv6_mask transaction_id) lt (mask_fits transaction_id fit)) (ap (drop 2) tail) in
+address_unique (V6 ip port) (V6 ip' port') tx value fit given e =
+    let tail : big_bytes 2 (bit_xor port cookie_half) ++ xor_bytes 16 ip (ipv6_mask tx) ≡ big_bytes 2 (bit_xor port' cookie_half) ++ xor_bytes 16 ip' (ipv6_mask tx) = ap (drop 2) (sym given.spelled ∙ e.spelled) in
+    let same = unmasked 16 ip ip' port port' (ipv6_mask tx) given.fits e.fits (λ x lt. xor_lt 128 x (ipv6_mask tx) lt (mask_fits tx fit)) (ap (drop 2) tail) in
     λ i. V6 (same i) (unmasked_port port port' given.fits.small e.fits.small _ _ tail i)
-address_unique (V4 ip port) (V6 ip' port') transaction_id value fit given e = absurd (omega (arith, ap (λ (v : List ℕ). get_or v 1 0) (sym given.spelled ∙ e.spelled)))
-address_unique (V6 ip port) (V4 ip' port') transaction_id value fit given e = absurd (omega (arith, ap (λ (v : List ℕ). get_or v 1 0) (sym given.spelled ∙ e.spelled)))
+address_unique (V4 ip port) (V6 ip' port') tx value fit given e = absurd (omega (arith, ap (λ (v : List ℕ). get_or v 1 0) (sym given.spelled ∙ e.spelled)))
+address_unique (V6 ip port) (V4 ip' port') tx value fit given e = absurd (omega (arith, ap (λ (v : List ℕ). get_or v 1 0) (sym given.spelled ∙ e.spelled)))
 
 -- the bytes before an address, and the address after them
 pub value_written : (n number mask : ℕ) (front want rest old ip : List ℕ) → front ≡ want → rest ≡ big_bytes n (bit_xor number mask) ++ drop n old → length old ≡ n → number ≡ big_number n ip → front ++ rest ≡ want ++ xor_bytes n ip mask

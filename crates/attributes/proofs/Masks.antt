@@ -45,12 +45,12 @@ unfolding xor_bytes
 length-masked n ip mask = length-bytes_high_first n (bit_xor (big_number n ip) mask)
 
 -- the length and the family of an address's value
-pub address_shape : (a : Addr) (transaction_id value : List ℕ) → IsAddressValue a transaction_id value → ((length value ≡ 8) × (get_or value 1 0 ≡ 1)) ⊎ ((length value ≡ 20) × (get_or value 1 0 ≡ 2))
-address_shape (V4 ip port) transaction_id value is = inl (omega (arith, ap length is.spelled, length-masked 4 ip magic_cookie), ap (λ (v : List ℕ). get_or v 1 0) is.spelled)
-address_shape (V6 ip port) transaction_id value is = inr (omega (arith, ap length is.spelled, length-masked 16 ip (ipv6_mask transaction_id)), ap (λ (v : List ℕ). get_or v 1 0) is.spelled)
+pub address_shape : (a : Addr) (tx value : List ℕ) → IsAddressValue a tx value → ((length value ≡ 8) × (get_or value 1 0 ≡ 1)) ⊎ ((length value ≡ 20) × (get_or value 1 0 ≡ 2))
+address_shape (V4 ip port) tx value is = inl (omega (arith, ap length is.spelled, length-masked 4 ip magic_cookie), ap (λ (v : List ℕ). get_or v 1 0) is.spelled)
+address_shape (V6 ip port) tx value is = inr (omega (arith, ap length is.spelled, length-masked 16 ip (ipv6_mask tx)), ap (λ (v : List ℕ). get_or v 1 0) is.spelled)
 
 -- the value of an address has 8 or 20 bytes
-pub value_short : (a : Addr) (transaction_id : List ℕ) → length (address_value a transaction_id) ≤ 20
+pub value_short : (a : Addr) (tx : List ℕ) → length (address_value a tx) ≤ 20
 unfolding address_value
-value_short (V4 ip port) transaction_id = omega (arith, length-masked 4 ip magic_cookie)
-value_short (V6 ip port) transaction_id = omega (arith, length-masked 16 ip (ipv6_mask transaction_id))
+value_short (V4 ip port) tx = omega (arith, length-masked 4 ip magic_cookie)
+value_short (V6 ip port) tx = omega (arith, length-masked 16 ip (ipv6_mask tx))

@@ -30,13 +30,13 @@ const COOKIE_HALF: u16 = (MAGIC_COOKIE >> 16) as u16;
 
 /// Returns the number that an IPv6 address is xored with: the cookie, followed by the transaction id.
 #[tactic(auto, unfolding(crate::specs::Addresses::ipv6_mask))]
-fn ipv6_mask(transaction_id: &[u8; 12]) -> u128
-    ensures { result ≡ ipv6_mask transaction_id.now }
+fn ipv6_mask(tx: &[u8; 12]) -> u128
+    ensures { result ≡ ipv6_mask tx.now }
 {
     let mut bytes = [0; 16];
     BigEndian::write_u32(&mut bytes, MAGIC_COOKIE);
     let (_, id) = bytes.split_at_mut(4);
-    id.copy_from_slice(transaction_id);
+    id.copy_from_slice(tx);
     BigEndian::read_u128(&bytes)
 }
 
@@ -61,13 +61,13 @@ fn ipv4_in(value: &[u8]) -> [u8; 4]
 }
 
 /// Returns the IPv6 address in a value.
-fn ipv6_in(value: &[u8], transaction_id: &[u8; 12]) -> [u8; 16]
+fn ipv6_in(value: &[u8], tx: &[u8; 12]) -> [u8; 16]
     requires { 20 ≤ length value.now }
-    ensures spelled { xor_bytes 16 result (ipv6_mask transaction_id.now) ≡ take 16 (drop 4 value.now) }
-    ensures ip { result ≡ xor_bytes 16 (drop 4 value.now) (ipv6_mask transaction_id.now) }
+    ensures spelled { xor_bytes 16 result (ipv6_mask tx.now) ≡ take 16 (drop 4 value.now) }
+    ensures ip { result ≡ xor_bytes 16 (drop 4 value.now) (ipv6_mask tx.now) }
 {
     let (_, rest) = value.split_at(4);
-    (BigEndian::read_u128(rest) ^ ipv6_mask(transaction_id)).to_be_bytes()
+    (BigEndian::read_u128(rest) ^ ipv6_mask(tx)).to_be_bytes()
 }
 
 /// Reads the value of an attribute with an XOR address, under the transaction id of its message
@@ -75,11 +75,11 @@ fn ipv6_in(value: &[u8], transaction_id: &[u8; 12]) -> [u8; 16]
 ///
 /// # Errors
 /// Returns A1 for a value that has neither 8 bytes and the family of IPv4 nor 20 bytes and that of IPv6.
-pub fn read_xor_addr(value: &[u8], transaction_id: &[u8; 12]) -> Result<Addr, ValueError>
-    ensures reads { result_ok result ≡ address_in transaction_id.now value.now }
-    ensures found { IfOk result (λ a. IsAddressValue a transaction_id.now value.now) }
+pub fn read_xor_addr(value: &[u8], tx: &[u8; 12]) -> Result<Addr, ValueError>
+    ensures reads { result_ok result ≡ address_in tx.now value.now }
+    ensures found { IfOk result (λ a. IsAddressValue a tx.now value.now) }
     ensures kind { IfErr result (λ e. e.0 ≡ kinds.Address) }
-    ensures refused { IfErr result (λ e. (a : addr.Addr) → IsAddressValue a transaction_id.now value.now → ⊥) }
+    ensures refused { IfErr result (λ e. (a : addr.Addr) → IsAddressValue a tx.now value.now → ⊥) }
 {
     if value.len() == IPV4_BYTES && value[1] == family::IPV4 {
         let address = Addr::V4 {
@@ -91,7 +91,7 @@ pub fn read_xor_addr(value: &[u8], transaction_id: &[u8; 12]) -> Result<Addr, Va
     }
     if value.len() == IPV6_BYTES && value[1] == family::IPV6 {
         let address = Addr::V6 {
-            ip: ipv6_in(value, transaction_id),
+            ip: ipv6_in(value, tx),
             port: port_in(value),
         };
         law_is_address(&address);
@@ -123,14 +123,14 @@ fn ipv4_value(ip: &[u8; 4], port: u16) -> [u8; IPV4_BYTES]
 }
 
 /// Returns the value of an IPv6 address.
-fn ipv6_value(ip: &[u8; 16], port: u16, transaction_id: &[u8; 12]) -> [u8; IPV6_BYTES]
+fn ipv6_value(ip: &[u8; 16], port: u16, tx: &[u8; 12]) -> [u8; IPV6_BYTES]
     ensures { result
-        ≡ 0 ∷ IPV6 ∷ big_bytes 2 (bit_xor port cookie_half) ++ xor_bytes 16 ip.now (ipv6_mask transaction_id.now) }
+        ≡ 0 ∷ IPV6 ∷ big_bytes 2 (bit_xor port cookie_half) ++ xor_bytes 16 ip.now (ipv6_mask tx.now) }
 {
     let mut value = [0; IPV6_BYTES];
     let (front, rest) = value.split_at_mut(FRONT);
     write_front(front, family::IPV6, port);
-    BigEndian::write_u128(rest, BigEndian::read_u128(ip) ^ ipv6_mask(transaction_id));
+    BigEndian::write_u128(rest, BigEndian::read_u128(ip) ^ ipv6_mask(tx));
     value
 }
 
@@ -149,7 +149,7 @@ pub fn write_xor_addr(builder: &mut Builder<'_>, kind: u16, address: &Addr) -> R
     match address {
         Addr::V4 { ip, port } => builder.attr(kind, &ipv4_value(ip, *port)),
         Addr::V6 { ip, port } => {
-            let value = ipv6_value(ip, *port, &builder.transaction_id());
+            let value = ipv6_value(ip, *port, &builder.tx());
             builder.attr(kind, &value)
         }
     }
@@ -166,7 +166,7 @@ pub fn push_xor_addr(builder: &mut Builder<'_>, kind: u16, address: &Addr)
     match address {
         Addr::V4 { ip, port } => builder.push(kind, &ipv4_value(ip, *port).as_slice()),
         Addr::V6 { ip, port } => {
-            let value = ipv6_value(ip, *port, &builder.transaction_id());
+            let value = ipv6_value(ip, *port, &builder.tx());
             builder.push(kind, &value.as_slice());
         }
     }
@@ -174,7 +174,7 @@ pub fn push_xor_addr(builder: &mut Builder<'_>, kind: u16, address: &Addr)
 
 /// States that the value of an address has at most 20 bytes.
 pub fn law_values_are_short()
-    ensures { (a : addr.Addr) (transaction_id : List ℕ) → length (address_value a transaction_id) ≤ 20 }
+    ensures { (a : addr.Addr) (tx : List ℕ) → length (address_value a tx) ≤ 20 }
 {}
 
 /// States that every item of a slice of bytes is below 256.
@@ -183,22 +183,18 @@ fn law_are_bytes(bytes: &[u8])
 {}
 
 /// Reads an address back from its value, which may have any first byte: this always succeeds.
-pub fn read_back(
-    address: &Addr,
-    transaction_id: &[u8; 12],
-    value: &[u8],
-) -> Result<Addr, ValueError>
-    requires { IsAddressValue address.now transaction_id.now value.now }
+pub fn read_back(address: &Addr, tx: &[u8; 12], value: &[u8]) -> Result<Addr, ValueError>
+    requires { IsAddressValue address.now tx.now value.now }
     ensures { IsOkAnd result (λ a. a ≡ address.now) }
 {
-    let address = read_xor_addr(value, transaction_id)?;
+    let address = read_xor_addr(value, tx)?;
     Ok(address)
 }
 
 /// States that a value has at most one address under a transaction id.
-pub fn law_addresses_are_unique(transaction_id: &[u8; 12])
+pub fn law_addresses_are_unique(tx: &[u8; 12])
     ensures { (a b : addr.Addr) (value : List ℕ)
-        → IsAddressValue a transaction_id.now value → IsAddressValue b transaction_id.now value → a ≡ b }
+        → IsAddressValue a tx.now value → IsAddressValue b tx.now value → a ≡ b }
 {
-    law_are_bytes(transaction_id);
+    law_are_bytes(tx);
 }

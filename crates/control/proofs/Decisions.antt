@@ -98,12 +98,12 @@ module _ (client : Addr) (user : ℕ) (p : Parts) (rows : Rows) (a : Allocation)
   create_permission-is : (b : Bool) → are_of a.family p ≡ Ok b → create_permission client user p rows ≡ done (permit_change a.slot (peers_of p) rows)
   create_permission-is b read =
       ap (λ r. r >>= permit_for p rows) own
-      ∙ elim (addresses_in p.transaction_id (values_of XOR_PEER_ADDRESS (message_of p).attributes)) as
-      (λ o. addresses_in p.transaction_id (values_of XOR_PEER_ADDRESS (message_of p).attributes) ≡ o → (some_addresses o >>= λ peers. Ok (list_all (is_of_family a.family) peers)) ≡ Ok b
+      ∙ elim (addresses_in p.tx (values_of XOR_PEER_ADDRESS (message_of p).attributes)) as
+      (λ o. addresses_in p.tx (values_of XOR_PEER_ADDRESS (message_of p).attributes) ≡ o → (some_addresses o >>= λ peers. Ok (list_all (is_of_family a.family) peers)) ≡ Ok b
       → (some_addresses o >>= permit_all a rows) ≡ done (permit_change a.slot (peers_of p) rows)) [
         | None ↦ λ is h. absurd (ok-err (sym h))
         | Some [] ↦ λ is h. absurd (ok-err (sym h))
-        | Some (peer ∷ peers) ↦ λ is h. ap (λ all. done (permit_change a.slot all rows)) (sym (all_read p.transaction_id (values_of XOR_PEER_ADDRESS (message_of p).attributes) (peer ∷ peers) is))
+        | Some (peer ∷ peers) ↦ λ is h. ap (λ all. done (permit_change a.slot all rows)) (sym (all_read p.tx (values_of XOR_PEER_ADDRESS (message_of p).attributes) (peer ∷ peers) is))
       ] refl read
 
   -- an address of another family

@@ -33,10 +33,10 @@ pub begun_when_ok : {E P : Type 0} (result : Result (Unit {0}) E) → false ≡ 
 begun_when_ok (Ok done) is_ok begun = begun
 begun_when_ok (Err error) is_ok begun = absurd (both_ways false refl is_ok)
 
-pub begun_kept : (kind : ℕ) (transaction_id old new : List ℕ) → IsBegun kind transaction_id old new → IsKeptFrom (used_in new) old new
-begun_kept kind transaction_id old new begins n far =
+pub begun_kept : (kind : ℕ) (tx old new : List ℕ) → IsBegun kind tx old new → IsKeptFrom (used_in new) old new
+begun_kept kind tx old new begins n far =
     ap (drop n) begins.bytes
-    ∙ drop-append-drop (length (parts_bytes (empty_message kind transaction_id))) old (parts_bytes (empty_message kind transaction_id)) n
+    ∙ drop-append-drop (length (parts_bytes (empty_message kind tx))) old (parts_bytes (empty_message kind tx)) n
     (omega (arith, far, used_is new, ap (λ p. length (parts_bytes p)) begins.parts)) refl
 
 -- the buffer at the end is that of the last builder
@@ -44,11 +44,11 @@ pub kept_whole : (result : ℕ) (final last old : List ℕ) → final ≡ last �
 kept_whole result final last old same kept = ap (drop result) same ∙ kept
 
 -- a message that was begun, and to which two functions appended
-pub kept_reply : (kind : ℕ) (transaction_id old begun : List ℕ) (first second third : Builder) (result : ℕ) → IsBegun kind transaction_id old begun → bytes_of first ≡ begun
+pub kept_reply : (kind : ℕ) (tx old begun : List ℕ) (first second third : Builder) (result : ℕ) → IsBegun kind tx old begun → bytes_of first ≡ begun
     → used_of first ≤ used_of second → IsKeptFrom (used_of second) (bytes_of first) (bytes_of second)
     → used_of second ≤ used_of third → IsKeptFrom (used_of third) (bytes_of second) (bytes_of third) → result ≡ used_of third
     → drop result (bytes_of third) ≡ drop result old
-kept_reply kind transaction_id old begun first second third result begins same longer kept longer_yet kept_yet size =
-    let at_first : IsKeptFrom (used_of first) old (bytes_of first) = subst (λ (bytes : List ℕ). IsKeptFrom (used_in bytes) old bytes) (sym same) (begun_kept kind transaction_id old begun begins) in
+kept_reply kind tx old begun first second third result begins same longer kept longer_yet kept_yet size =
+    let at_first : IsKeptFrom (used_of first) old (bytes_of first) = subst (λ (bytes : List ℕ). IsKeptFrom (used_in bytes) old bytes) (sym same) (begun_kept kind tx old begun begins) in
     let at_second = kept_then (used_of first) (used_of second) old (bytes_of first) (bytes_of second) longer at_first kept in
     kept_then (used_of second) (used_of third) old (bytes_of second) (bytes_of third) longer_yet at_second kept_yet result (omega (arith, size))

@@ -139,28 +139,28 @@ collected_all peers all c m end = elim (c.stands m end) [
 
 -- ---- as the values are read
 
-pub collected_value : (transaction_id : List ℕ) (peers more : List Addr) (a : Addr) (value : List ℕ) (values before : List (List ℕ)) (all : List Addr)
-    → before ≡ value ∷ values → address_in transaction_id value ≡ Some a → more ≡ peers_with peers a
-    → Collected peers (filter_map (address_in transaction_id) before) all → Collected more (filter_map (address_in transaction_id) values) all
-collected_value transaction_id peers more a value values before all first read added c =
-    let left : List Addr = filter_map (address_in transaction_id) values in
-    let begun : filter_map (address_in transaction_id) before ≡ a ∷ left = ap (filter_map (address_in transaction_id)) first ∙ ap (λ o. cons_option o left) read in
+pub collected_value : (tx : List ℕ) (peers more : List Addr) (a : Addr) (value : List ℕ) (values before : List (List ℕ)) (all : List Addr)
+    → before ≡ value ∷ values → address_in tx value ≡ Some a → more ≡ peers_with peers a
+    → Collected peers (filter_map (address_in tx) before) all → Collected more (filter_map (address_in tx) values) all
+collected_value tx peers more a value values before all first read added c =
+    let left : List Addr = filter_map (address_in tx) values in
+    let begun : filter_map (address_in tx) before ≡ a ∷ left = ap (filter_map (address_in tx)) first ∙ ap (λ o. cons_option o left) read in
     subst (λ (xs : List Addr). Collected xs left all) (sym added) (collected_peer peers a left all (subst (λ (xs : List Addr). Collected peers xs all) begun c))
 
-pub collected_end : (transaction_id : List ℕ) (peers : List Addr) (values : List (List ℕ)) (all : List Addr) → values ≡ [] → Collected peers (filter_map (address_in transaction_id) values) all → StandsFor peers all
-collected_end transaction_id peers values all none c = collected_all peers all (subst (λ (vs : List (List ℕ)). Collected peers (filter_map (address_in transaction_id) vs) all) none c)
+pub collected_end : (tx : List ℕ) (peers : List Addr) (values : List (List ℕ)) (all : List Addr) → values ≡ [] → Collected peers (filter_map (address_in tx) values) all → StandsFor peers all
+collected_end tx peers values all none c = collected_all peers all (subst (λ (vs : List (List ℕ)). Collected peers (filter_map (address_in tx) vs) all) none c)
 
 -- ---- the addresses of a request
 
 -- all addresses of a request that are read are those that are well formed
-pub all_read : (transaction_id : List ℕ) (values : List (List ℕ)) (peers : List Addr) → addresses_in transaction_id values ≡ Some peers → filter_map (address_in transaction_id) values ≡ peers
-all_read transaction_id [] peers e = same_Some [] peers e
-all_read transaction_id (value ∷ values) peers e =
-    elim (address_in transaction_id value) as (λ o. first_and_rest o (addresses_in transaction_id values) ≡ Some peers → cons_option o (filter_map (address_in transaction_id) values) ≡ peers) [
+pub all_read : (tx : List ℕ) (values : List (List ℕ)) (peers : List Addr) → addresses_in tx values ≡ Some peers → filter_map (address_in tx) values ≡ peers
+all_read tx [] peers e = same_Some [] peers e
+all_read tx (value ∷ values) peers e =
+    elim (address_in tx value) as (λ o. first_and_rest o (addresses_in tx values) ≡ Some peers → cons_option o (filter_map (address_in tx) values) ≡ peers) [
       | None ↦ λ h. absurd (none-some peers h)
-      | Some a ↦ λ h. elim (addresses_in transaction_id values) as (λ r. addresses_in transaction_id values ≡ r → first_and_rest (Some a) r ≡ Some peers → a ∷ filter_map (address_in transaction_id) values ≡ peers) [
+      | Some a ↦ λ h. elim (addresses_in tx values) as (λ r. addresses_in tx values ≡ r → first_and_rest (Some a) r ≡ Some peers → a ∷ filter_map (address_in tx) values ≡ peers) [
         | None ↦ λ is k. absurd (none-some peers k)
-        | Some rest ↦ λ is k. ap (λ (xs : List Addr). a ∷ xs) (all_read transaction_id values rest is) ∙ same_Some (a ∷ rest) peers k
+        | Some rest ↦ λ is k. ap (λ (xs : List Addr). a ∷ xs) (all_read tx values rest is) ∙ same_Some (a ∷ rest) peers k
       ] refl h
     ] e
 
@@ -192,12 +192,12 @@ one_added family peers a e one =
       | false ↦ one_pushed family peers a e one
     ]
 
-pub family_value : (family : Family) → (transaction_id : List ℕ) (peers more : List Addr) (a : Addr) (value : List ℕ) (values before : List (List ℕ))
-    → before ≡ value ∷ values → address_in transaction_id value ≡ Some a → more ≡ peers_with peers a
-    → AreOf family peers (filter_map (address_in transaction_id) before) → AreOf family more (filter_map (address_in transaction_id) values)
-family_value family transaction_id peers more a value values before first read added are =
-    let left : List Addr = filter_map (address_in transaction_id) values in
-    let begun : filter_map (address_in transaction_id) before ≡ a ∷ left = ap (filter_map (address_in transaction_id)) first ∙ ap (λ o. cons_option o left) read in
+pub family_value : (family : Family) → (tx : List ℕ) (peers more : List Addr) (a : Addr) (value : List ℕ) (values before : List (List ℕ))
+    → before ≡ value ∷ values → address_in tx value ≡ Some a → more ≡ peers_with peers a
+    → AreOf family peers (filter_map (address_in tx) before) → AreOf family more (filter_map (address_in tx) values)
+family_value family tx peers more a value values before first read added are =
+    let left : List Addr = filter_map (address_in tx) values in
+    let begun : filter_map (address_in tx) before ≡ a ∷ left = ap (filter_map (address_in tx)) first ∙ ap (λ o. cons_option o left) read in
     let parts = one_and_all family a left (sym (ap (list_all (is_of_family family)) begun) ∙ are.rest) in
     record { collected = ap (list_all (is_of_family family)) added ∙ one_added family peers a are.collected parts.0; rest = parts.1 }
 
@@ -205,9 +205,9 @@ family_value family transaction_id peers more a value values before first read a
 pub read_families : (family : Family) (p : Parts) (b : Bool) → are_of family p ≡ Ok b → list_all (is_of_family family) (peers_of p) ≡ b
 read_families family p b =
     let values : List (List ℕ) = values_of XOR_PEER_ADDRESS (message_of p).attributes in
-    elim (addresses_in p.transaction_id values) as
-    (λ o. addresses_in p.transaction_id values ≡ o → all_of family o ≡ Ok b → list_all (is_of_family family) (filter_map (address_in p.transaction_id) values) ≡ b) [
+    elim (addresses_in p.tx values) as
+    (λ o. addresses_in p.tx values ≡ o → all_of family o ≡ Ok b → list_all (is_of_family family) (filter_map (address_in p.tx) values) ≡ b) [
       | None ↦ λ is h. absurd (err-ok h)
       | Some [] ↦ λ is h. absurd (err-ok h)
-      | Some (peer ∷ peers) ↦ λ is h. ap (list_all (is_of_family family)) (all_read p.transaction_id values (peer ∷ peers) is) ∙ ok_value _ _ h
+      | Some (peer ∷ peers) ↦ λ is h. ap (list_all (is_of_family family)) (all_read p.tx values (peer ∷ peers) is) ∙ ok_value _ _ h
     ] refl

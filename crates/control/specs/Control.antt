@@ -107,7 +107,7 @@ family_for config (Some n) = option_and_then (offered config) (family_numbered n
 
 -- a repeated request gets the first success again
 abbrev pub is_repeated : Allocation → ℕ → Parts → Bool
-is_repeated a user p = bytes_eq a.transaction_id p.transaction_id && nat_eq a.user user
+is_repeated a user p = bytes_eq a.tx p.tx && nat_eq a.user user
 
 -- the family and the lifetime to give, where all values can be granted
 abbrev pub acceptable : Config → Parts → Result (Family × ℕ) ErrorCode
@@ -122,7 +122,7 @@ acceptable config p = do
 abbrev pub allocate_anew : Config → Addr → ℕ → Parts → Rows → Decision
 allocate_anew config client user p rows = do
   given ← acceptable config p
-  made ← result_of_change (tables.allocation_change client user p.transaction_id given.0 given.1 rows)
+  made ← result_of_change (tables.allocation_change client user p.tx given.0 given.1 rows)
   Ok (Allocated given.0 made.0 given.1, made.1)
 
 -- where the client has no allocation, and where it has one, which a repeated request leaves as it is
@@ -167,8 +167,8 @@ first_and_rest (Some a) (Some addresses) = Some (a ∷ addresses)
 
 -- all addresses of a request, if each is well formed
 abbrev pub addresses_in : List ℕ → List (List ℕ) → Option (List Addr)
-addresses_in transaction_id [] = Some []
-addresses_in transaction_id (value ∷ values) = first_and_rest (address_in transaction_id value) (addresses_in transaction_id values)
+addresses_in tx [] = Some []
+addresses_in tx (value ∷ values) = first_and_rest (address_in tx value) (addresses_in tx values)
 
 -- the addresses, of which there must be one
 abbrev pub some_addresses : Option (List Addr) → Result (List Addr) ErrorCode
@@ -178,7 +178,7 @@ some_addresses (Some (peer ∷ peers)) = Ok (peer ∷ peers)
 
 -- the addresses of a request
 abbrev pub peers_in : Parts → Result (List Addr) ErrorCode
-peers_in p = some_addresses (addresses_in p.transaction_id (values_of XOR_PEER_ADDRESS (message_of p).attributes))
+peers_in p = some_addresses (addresses_in p.tx (values_of XOR_PEER_ADDRESS (message_of p).attributes))
 
 abbrev pub create_permission : Addr → ℕ → Parts → Rows → Decision
 create_permission client user p rows = do
@@ -193,7 +193,7 @@ abbrev pub channel_bind : Addr → ℕ → Parts → Rows → Decision
 channel_bind client user p rows = do
   a ← own_allocation client user rows
   number ← required_value (number_of_value 2) (first_value p CHANNEL_NUMBER)
-  peer ← required_value (address_in p.transaction_id) (first_value p XOR_PEER_ADDRESS)
+  peer ← required_value (address_in p.tx) (first_value p XOR_PEER_ADDRESS)
   _ ← check (is_between FIRST_CHANNEL LAST_CHANNEL number) BadRequest
   made ← result_of_change (tables.bind_change a.slot number peer rows)
   Ok (Done, made.1)

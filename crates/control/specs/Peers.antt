@@ -11,7 +11,7 @@ use Rattle.control.specs.declared.create_permission.TheConstants.{MAX_PEERS}
 
 -- the addresses that are well formed
 abbrev pub peers_of : Parts → List Addr
-peers_of p = filter_map (address_in p.transaction_id) (values_of XOR_PEER_ADDRESS (message_of p).attributes)
+peers_of p = filter_map (address_in p.tx) (values_of XOR_PEER_ADDRESS (message_of p).attributes)
 
 -- an address after others, if its IP address isn't among them and there is room
 abbrev pub peers_with : List Addr → Addr → List Addr

@@ -40,14 +40,14 @@ relayed_address config Ipv6 slot = V6 (ip6_of config.ip6) (config.first_port + s
 
 -- the attributes of a success response
 abbrev pub grant_attributes : Config → Addr → List ℕ → Grant → List Attribute
-grant_attributes config client transaction_id grant.Mapped = attribute XOR_MAPPED_ADDRESS (address_value client transaction_id) ∷ []
-grant_attributes config client transaction_id (grant.Allocated family slot lifetime) =
-    attribute XOR_RELAYED_ADDRESS (address_value (relayed_address config family slot) transaction_id)
+grant_attributes config client tx grant.Mapped = attribute XOR_MAPPED_ADDRESS (address_value client tx) ∷ []
+grant_attributes config client tx (grant.Allocated family slot lifetime) =
+    attribute XOR_RELAYED_ADDRESS (address_value (relayed_address config family slot) tx)
     ∷ attribute LIFETIME (big_bytes 4 lifetime)
-    ∷ attribute XOR_MAPPED_ADDRESS (address_value client transaction_id)
+    ∷ attribute XOR_MAPPED_ADDRESS (address_value client tx)
     ∷ []
-grant_attributes config client transaction_id (grant.Refreshed lifetime) = attribute LIFETIME (big_bytes 4 lifetime) ∷ []
-grant_attributes config client transaction_id grant.Done = []
+grant_attributes config client tx (grant.Refreshed lifetime) = attribute LIFETIME (big_bytes 4 lifetime) ∷ []
+grant_attributes config client tx grant.Done = []
 
 -- the challenge to a client: the realm and the nonce (RFC 8489, section 9.2.4)
 abbrev pub challenge : Config → List Attribute
@@ -96,9 +96,9 @@ kind_of r class = type_number (type_of r class)
 
 -- the reply to a request
 abbrev pub reply : Request → Class → List ℕ → List Attribute → Option (List ℕ) → Parts
-reply r class transaction_id attributes key = signed_if key (with_attributes (empty_message (kind_of r class) transaction_id) attributes)
+reply r class tx attributes key = signed_if key (with_attributes (empty_message (kind_of r class) tx) attributes)
 
 -- the reply that gives a grant or an error
 abbrev pub reply_to : Config → Request → Addr → Parts → Option (List ℕ) → Result Grant ErrorCode → Parts
-reply_to config r client p key (Ok grant) = reply r class.Success p.transaction_id (grant_attributes config client p.transaction_id grant) key
-reply_to config r client p key (Err error) = reply r class.Error p.transaction_id (error_attributes config p error) key
+reply_to config r client p key (Ok grant) = reply r class.Success p.tx (grant_attributes config client p.tx grant) key
+reply_to config r client p key (Err error) = reply r class.Error p.tx (error_attributes config p error) key

@@ -24,7 +24,7 @@ pub const UDP: u8 = 17;
 fn is_repeated(allocation: &Allocation, user: usize, message: &Message<'_>) -> bool
     ensures { result ≡ is_repeated allocation.now user message.now }
 {
-    allocation.transaction_id == message.transaction_id() && allocation.user == user
+    allocation.tx == message.tx() && allocation.user == user
 }
 
 /// Returns the family of a number (RFC 8656, section 18.8), if it is that of one.
@@ -102,14 +102,7 @@ fn allocate_anew(
     ensures slots { length tables.new.slots ≡ length tables.old.slots }
 {
     let (family, lifetime) = acceptable(config, message)?;
-    match tables.allocate(
-        now,
-        client,
-        user,
-        message.transaction_id(),
-        family,
-        lifetime,
-    ) {
+    match tables.allocate(now, client, user, message.tx(), family, lifetime) {
         Ok(slot) => Ok(Grant::Allocated {
             family,
             slot,

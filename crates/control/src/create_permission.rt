@@ -31,10 +31,10 @@ pub const MAX_PEERS: usize = MAX_PERMISSIONS + 1;
 fn are_of(family: Family, message: &Message<'_>) -> Result<bool, ErrorCode>
     ensures { result ≡ are_of family message.now }
 {
-    let transaction_id = message.transaction_id();
+    let tx = message.tx();
     let mut found = None;
     for value in message.values_of(XOR_PEER_ADDRESS) {
-        let Some(peer) = address_in(value, &transaction_id) else {
+        let Some(peer) = address_in(value, &tx) else {
             return Err(ErrorCode::BadRequest);
         };
         found = Some(found.unwrap_or(true) && peer.is_of_family(family));
@@ -64,10 +64,10 @@ fn distinct_peers(message: &Message<'_>) -> ArrayVec<Addr, MAX_PEERS>
     ensures same { StandsFor result.items (peers_of message.now) }
     ensures families { (f : Family) → are_of f message.now ≡ Ok true → list_all (is_of_family f) result.items ≡ true }
 {
-    let transaction_id = message.transaction_id();
+    let tx = message.tx();
     let mut peers = ArrayVec::new();
     for value in message.values_of(XOR_PEER_ADDRESS) {
-        if let Some(peer) = address_in(value, &transaction_id) {
+        if let Some(peer) = address_in(value, &tx) {
             add_peer(&mut peers, peer);
         }
     }

@@ -98,7 +98,7 @@ fn push_lifetime(builder: &mut Builder<'_>, seconds: u32)
 fn push_grant(builder: &mut Builder<'_>, config: &Config, client: &Addr, grant: Grant)
     requires room { used_of builder.old + grant_room ≤ capacity_of builder.old }
     requires port { HasPort config.now grant }
-    ensures { Pushes (grant_attributes config.now client.now (parts_of builder.old).transaction_id grant) longest_grant
+    ensures { Pushes (grant_attributes config.now client.now (parts_of builder.old).tx grant) longest_grant
         builder.old builder.new }
 {
     match grant {
@@ -166,7 +166,7 @@ fn write_grant(out: &mut [u8], reply: &Reply<'_>, grant: Grant) -> usize
         reply.now.message.now (option_map key_bytes reply.now.key) (Ok grant)) }
 {
     let kind = reply.request.kind(Class::Success);
-    if begin(out, kind, &reply.message.transaction_id()).is_err() {
+    if begin(out, kind, &reply.message.tx()).is_err() {
         return 0;
     }
     let mut builder = Builder::resume(out);
@@ -186,7 +186,7 @@ fn write_error(out: &mut [u8], reply: &Reply<'_>, error: ErrorCode) -> usize
         reply.now.message.now (option_map key_bytes reply.now.key) (Err error)) }
 {
     let kind = reply.request.kind(Class::Error);
-    if begin(out, kind, &reply.message.transaction_id()).is_err() {
+    if begin(out, kind, &reply.message.tx()).is_err() {
         return 0;
     }
     let mut builder = Builder::resume(out);

@@ -59,18 +59,18 @@ pub(crate) fn channel_of(message: &Message<'_>) -> Result<u16, ErrorCode>
 }
 
 /// Returns the address in a value of XOR-PEER-ADDRESS.
-pub(crate) fn address_in(value: &[u8], transaction_id: &[u8; 12]) -> Option<Addr>
-    ensures { result ≡ address_in transaction_id.now value.now }
+pub(crate) fn address_in(value: &[u8], tx: &[u8; 12]) -> Option<Addr>
+    ensures { result ≡ address_in tx.now value.now }
 {
-    read_xor_addr(value, transaction_id).ok()
+    read_xor_addr(value, tx).ok()
 }
 
 /// Returns the address of XOR-PEER-ADDRESS, which must be there.
 pub(crate) fn peer_of(message: &Message<'_>) -> Result<Addr, ErrorCode>
-    ensures { result ≡ required_value (address_in message.now.transaction_id) (first_value message.now PEER_TYPE) }
+    ensures { result ≡ required_value (address_in message.now.tx) (first_value message.now PEER_TYPE) }
 {
     let value = message
         .value_of(XOR_PEER_ADDRESS)
         .ok_or(ErrorCode::BadRequest)?;
-    address_in(value, &message.transaction_id()).ok_or(ErrorCode::BadRequest)
+    address_in(value, &message.tx()).ok_or(ErrorCode::BadRequest)
 }

@@ -121,7 +121,7 @@ struct Request<'a> {
     client: Addr,
     method: Method,
     /// Each byte of the transaction id.
-    transaction_id: u8,
+    tx: u8,
     attributes: &'a [Attribute<'a>],
     /// Its credentials, which follow the attributes.
     credentials: Credentials<'a>,
@@ -139,7 +139,7 @@ const FIRST: Request<'static> = Request {
     now: 1000,
     client: CLIENT,
     method: Method::Allocate,
-    transaction_id: 1,
+    tx: 1,
     attributes: &[UDP],
     credentials: USER,
     peers: (0, 0),
@@ -161,33 +161,23 @@ fn write(request: &Request<'_>, buffer: &mut [u8]) -> Result<usize, Fail> {
         method: request.method,
         class: Class::Request,
     };
-    let mut builder = Builder::start(buffer, kind.kind(), [request.transaction_id; 12])?;
+    let mut builder = Builder::start(buffer, kind.kind(), [request.tx; 12])?;
     for (kind, value) in request.attributes {
         builder.attr(*kind, value)?;
     }
     for last in request.peers.0..request.peers.1 {
-        write_peer(
-            request.peers_family,
-            last,
-            request.transaction_id,
-            &mut builder,
-        )?;
+        write_peer(request.peers_family, last, request.tx, &mut builder)?;
     }
     if let Some(family) = request.last_peer {
-        write_peer(family, 255, request.transaction_id, &mut builder)?;
+        write_peer(family, 255, request.tx, &mut builder)?;
     }
     write_credentials(&request.credentials, &mut builder)?;
     Ok(builder.finish())
 }
 
-/// Appends XOR-PEER-ADDRESS with 192.0.2.`last` or 2001:db8::`last`, and the port 5000. The transaction id has the byte `transaction_id`
+/// Appends XOR-PEER-ADDRESS with 192.0.2.`last` or 2001:db8::`last`, and the port 5000. The transaction id has the byte `tx`
 /// alone.
-fn write_peer(
-    family: Family,
-    last: u8,
-    transaction_id: u8,
-    builder: &mut Builder<'_>,
-) -> Result<(), NoRoom> {
+fn write_peer(family: Family, last: u8, tx: u8, builder: &mut Builder<'_>) -> Result<(), NoRoom> {
     match family {
         Family::Ipv4 => {
             // the last byte is xored with that of the cookie
@@ -196,9 +186,9 @@ fn write_peer(
         }
         Family::Ipv6 => {
             // the last twelve bytes are xored with the transaction id
-            let mut value = [transaction_id; 20];
+            let mut value = [tx; 20];
             value[..8].copy_from_slice(&[0x00, 0x02, 0x32, 0x9a, 0x01, 0x13, 0xa9, 0xfa]);
-            value[19] = last ^ transaction_id;
+            value[19] = last ^ tx;
             builder.attr(XOR_PEER_ADDRESS, &value)
         }
     }
@@ -277,7 +267,7 @@ fn ask(
     assert!(rt; n <= 1500);
     let (reply, _) = out.split_at(n);
     let reply = read(reply)?;
-    assert_eq!(rt; reply.transaction_id(), [request.transaction_id; 12]);
+    assert_eq!(rt; reply.tx(), [request.tx; 12]);
     let code = match reply.value_of(ERROR_CODE) {
         Some(value) => code_in(value),
         None => 0,

@@ -6,7 +6,7 @@ use Rattle.credentials.specs.Hmac.{hmac}
 -- a message up to a MESSAGE-INTEGRITY that follows these of its attributes: the header counts the length to the end of
 -- that attribute, which has 24 bytes
 abbrev pub covered_bytes : Parts → List PaddedAttribute → List ℕ
-covered_bytes p front = header p.kind (length (attributes_bytes front) + 24) p.transaction_id ++ attributes_bytes front
+covered_bytes p front = header p.kind (length (attributes_bytes front) + 24) p.tx ++ attributes_bytes front
 
 -- the right MESSAGE-INTEGRITY of a message that has one: the first
 abbrev pub integrity_under : List ℕ → Parts → Option (List ℕ)

@@ -20,8 +20,8 @@ use stun::{Builder, NoRoom};
 /// of that attribute (RFC 8489, section 14.5), whatever length it had.
 pub(crate) fn integrity_over(front: &[u8], key: &Key) -> [u8; 20]
     requires { 20 ≤ length front.now }
-    ensures { (p : Parts) (n : ℕ) (attributes : List PaddedAttribute) → length p.transaction_id ≡ 12
-        → front.now ≡ header p.kind n p.transaction_id ++ attributes_bytes attributes
+    ensures { (p : Parts) (n : ℕ) (attributes : List PaddedAttribute) → length p.tx ≡ 12
+        → front.now ≡ header p.kind n p.tx ++ attributes_bytes attributes
         → result ≡ hmac (key_bytes key.now) (covered_bytes p attributes) }
 {
     let (kind, rest) = front.split_at(2);

@@ -30,7 +30,7 @@ side_text (Peer slot peer) = codes "p"
 
 -- moment, transaction id, source, datagram
 abbrev pub datagram_text : Meta → List ℕ → List ℕ
-datagram_text given bytes = decimal given.now ++ 0x20 ∷ (encode_lower given.transaction_id ++ 0x20 ∷ (source_text given.from ++ 0x20 ∷ bytes_text bytes))
+datagram_text given bytes = decimal given.now ++ 0x20 ∷ (encode_lower given.tx ++ 0x20 ∷ (source_text given.from ++ 0x20 ∷ bytes_text bytes))
 
 -- a datagram with its side, or a nonce
 abbrev pub line_of : Event → List ℕ
@@ -46,7 +46,7 @@ IsSource slots (Peer slot peer) = (slot < slots) × IsAddress peer
 -- 0x21 to 0x7E.
 abbrev pub IsEvent : ℕ → Event → Type 0
 IsEvent slots (Datagram given bytes) =
-    (given.now < 2 ^ 64) × (length given.transaction_id ≡ 12) × IsBytes given.transaction_id × IsSource slots given.from × (length bytes ≤ MAX_DATAGRAM) × IsBytes bytes
+    (given.now < 2 ^ 64) × (length given.tx ≡ 12) × IsBytes given.tx × IsSource slots given.from × (length bytes ≤ MAX_DATAGRAM) × IsBytes bytes
 IsEvent slots (Nonce text) = is_nonce text ≡ true
 
 -- ---- answers

@@ -93,10 +93,10 @@ datagram_in_text source text = do
   first ← parts_around 0x20 text
   second ← parts_around 0x20 first.1
   now ← decimal_in (2 ^ 64) first.0
-  transaction_id ← digits_in 12 second.0
+  tx ← digits_in 12 second.0
   from ← source second.1
   bytes ← content_in from.1
-  Some (Datagram (record { now = now; transaction_id = transaction_id; from = from.0 }) bytes)
+  Some (Datagram (record { now = now; tx = tx; from = from.0 }) bytes)
 
 abbrev pub nonce_in : List ℕ → Option Event
 nonce_in text = if is_nonce text then Some (Nonce text) else None

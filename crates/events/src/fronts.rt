@@ -104,14 +104,14 @@ fn side(source: &Source) -> &'static [u8]
 
 /// Returns what precedes the bytes of a datagram that came.
 pub(crate) fn datagram_front(meta: &Meta) -> ArrayVec<u8, FRONT>
-    ensures { result.items ≡ side_text meta.entry.now.from ++ 0x20 ∷ (decimal meta.entry.now.now ++ 0x20 ∷ (encode_lower meta.entry.now.transaction_id ++ 0x20 ∷ (source_text meta.entry.now.from ++ 0x20 ∷ []))) }
+    ensures { result.items ≡ side_text meta.entry.now.from ++ 0x20 ∷ (decimal meta.entry.now.now ++ 0x20 ∷ (encode_lower meta.entry.now.tx ++ 0x20 ∷ (source_text meta.entry.now.from ++ 0x20 ∷ []))) }
 {
     let mut front = ArrayVec::new();
     push_bytes(&mut front, side(&meta.from));
     push_bytes(&mut front, b" ");
     push_number(&mut front, meta.now);
     push_bytes(&mut front, b" ");
-    push_digits(&mut front, meta.transaction_id);
+    push_digits(&mut front, meta.tx);
     push_bytes(&mut front, b" ");
     push_source(&mut front, &meta.from);
     push_bytes(&mut front, b" ");

@@ -17,7 +17,7 @@ pub struct Meta {
     /// The moment at which it came, in seconds.
     pub now: u64,
     /// The transaction id for an indication about it.
-    pub transaction_id: [u8; 12],
+    pub tx: [u8; 12],
     /// Where it came from.
     pub from: Source,
 }

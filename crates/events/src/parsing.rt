@@ -169,7 +169,7 @@ fn peer(text: &[u8], slots: usize) -> Option<(Source, &[u8])>
 }
 
 /// Reads a transaction id.
-fn transaction_id(text: &[u8]) -> Option<[u8; 12]>
+fn tx(text: &[u8]) -> Option<[u8; 12]>
     ensures { result ≡ digits_in 12 text.now }
 {
     let mut id = [0; 12];
@@ -206,14 +206,10 @@ fn datagram<'a>(side: Side, text: &[u8], slots: usize, room: &mut [u8]) -> Optio
     let (now, rest) = split_at(text, b' ')?;
     let (id, rest) = split_at(rest, b' ')?;
     let now = number(now)?;
-    let transaction_id = transaction_id(id)?;
+    let tx = tx(id)?;
     let (from, rest) = source(side, rest, slots)?;
     let n = content(rest, room)?;
-    let meta = Meta {
-        now,
-        transaction_id,
-        from,
-    };
+    let meta = Meta { now, tx, from };
     Some(Parsed::Datagram { meta, n })
 }
 

@@ -47,16 +47,16 @@ impl fmt::Display for Ends {
 
 /// A place of the datagram: from its first byte on, or from an anchor on that lies between two places.
 #[derive(Clone, Copy)]
-pub(crate) struct Place {
+pub(crate) struct DatagramPlace {
     pub(crate) anchor: Anchor,
     pub(crate) offset: i32,
 }
 
-impl fmt::Display for Place {
+impl fmt::Display for DatagramPlace {
     ghost output = { λ p. Some (place_text p.anchor p.offset) };
 
     fn fmt<W: fmt::Write>(&self, f: &mut fmt::Formatter<W>) -> fmt::Result {
-        let Place { anchor, offset } = *self;
+        let DatagramPlace { anchor, offset } = *self;
         let offset = Signed(i64::from(offset));
         match anchor {
             Anchor::First => write!(f, "datagram{offset}"),
@@ -91,13 +91,13 @@ impl fmt::Display for After {
 
 /// How many bytes are proved after a place at an anchor that was made.
 #[derive(Clone, Copy)]
-struct Proved(Place);
+struct Proved(DatagramPlace);
 
 impl fmt::Display for Proved {
     ghost output = { λ p. Some (proved_text p.0.anchor p.0.offset) };
 
     fn fmt<W: fmt::Write>(&self, f: &mut fmt::Formatter<W>) -> fmt::Result {
-        let Place { anchor, offset } = self.0;
+        let DatagramPlace { anchor, offset } = self.0;
         match anchor {
             Anchor::First => Ok(()),
             Anchor::Made { proved, .. } => {
@@ -128,7 +128,7 @@ impl fmt::Display for Known {
                 write!(f, "stack{offset}")
             }
             AbstractValue::Data { anchor, offset } => {
-                let place = Place { anchor, offset };
+                let place = DatagramPlace { anchor, offset };
                 let proved = Proved(place);
                 write!(f, "{place}{proved}")
             }

@@ -12,7 +12,7 @@ side_number Client = 0
 side_number Peer = 1
 
 abbrev pub context_of : Context → machine.Context
-context_of c = record { side = side_number c.side; source = address_record c.source; wide_source = wide_record c.source; transaction_id = c.transaction_id }
+context_of c = record { side = side_number c.side; source = address_record c.source; wide_source = wide_record c.source; tx = c.tx }
 
 -- the answers of helpers
 abbrev pub HelperAnswers : Type 0

@@ -27,7 +27,8 @@ pub enum Side {
 pub struct Context {
     pub side: Side,
     pub source: Addr,
-    pub transaction_id: [u8; 12],
+    /// The transaction id that was drawn for the datagram.
+    pub tx: [u8; 12],
 }
 
 /// States that each item of a `[u8]` is below 256.
@@ -47,7 +48,7 @@ pub(crate) fn law_context(context: &Context)
     ensures { IsContext (context_of context.now) }
 {
     law_is_address(&context.source);
-    law_array(&context.transaction_id);
+    law_array(&context.tx);
 }
 
 /// The numbers of the sides in the context record.
@@ -85,13 +86,7 @@ pub(crate) fn lay_out_context(area: &mut [u8], context: &Context, size: usize)
         ++ drop POINTERS_BYTES (context_bytes (context_of context.now) size)) area.old }
 {
     let source = source_record(&context.source);
-    lay_out(
-        area,
-        size,
-        &source,
-        &context.transaction_id,
-        side_number(context.side),
-    );
+    lay_out(area, size, &source, &context.tx, side_number(context.side));
 }
 
 /// Writes the context record of a datagram of `size` bytes to its place in an area, and returns it as a trace reads it: with

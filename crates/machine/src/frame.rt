@@ -52,7 +52,7 @@ const NO_CONTEXT: Context = Context {
         ip: [0; 4],
         port: 0,
     },
-    transaction_id: [0; 12],
+    tx: [0; 12],
 };
 
 fn zeros(alloc: Global, n: usize) -> Result<Vec<u8>, AllocError>
@@ -221,16 +221,8 @@ impl Frame {
         surround_in(&mut self.flat, n);
         self.length = n;
         // part by part: one load of the whole would wait for the narrower stores of the caller
-        let Context {
-            side,
-            source,
-            transaction_id,
-        } = *context;
-        self.context = Context {
-            side,
-            source,
-            transaction_id,
-        };
+        let Context { side, source, tx } = *context;
+        self.context = Context { side, source, tx };
         self.window = None;
         self.is_started = true;
     }

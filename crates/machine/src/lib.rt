@@ -12,6 +12,7 @@ mod tracing;
 mod verified_run;
 
 pub use addresses::Addr;
+pub use basics::streams::Output as Lines;
 pub use context::{Context, Side};
 pub use frame::Frame;
 pub use outcome::{Outcome, Stuck};

@@ -16,7 +16,7 @@ pub const SAMPLE_ID: [u8; 12] = [
 #[derive(Clone, Copy)]
 pub struct AddressRow {
     pub value: &'static [u8],
-    pub transaction_id: [u8; 12],
+    pub tx: [u8; 12],
     pub address: Addr,
 }
 
@@ -24,7 +24,7 @@ pub const ADDRESSES: [AddressRow; 4] = [
     // 192.0.2.1 port 32853 (RFC 5769, section 2.2)
     AddressRow {
         value: &[0x00, 0x01, 0xa1, 0x47, 0xe1, 0x12, 0xa6, 0x43],
-        transaction_id: SAMPLE_ID,
+        tx: SAMPLE_ID,
         address: Addr::V4 {
             ip: [192, 0, 2, 1],
             port: 32853,
@@ -36,7 +36,7 @@ pub const ADDRESSES: [AddressRow; 4] = [
             0x00, 0x02, 0xa1, 0x47, 0x01, 0x13, 0xa9, 0xfa, 0xa5, 0xd3, 0xf1, 0x79, 0xbc, 0x25,
             0xf4, 0xb5, 0xbe, 0xd2, 0xb9, 0xd9,
         ],
-        transaction_id: SAMPLE_ID,
+        tx: SAMPLE_ID,
         address: Addr::V6 {
             ip: [
                 0x20, 0x01, 0x0d, 0xb8, 0x12, 0x34, 0x56, 0x78, 0x00, 0x11, 0x22, 0x33, 0x44, 0x55,
@@ -50,7 +50,7 @@ pub const ADDRESSES: [AddressRow; 4] = [
         value: &[
             0x00, 0x02, 0x32, 0x9a, 0x01, 0x13, 0xa9, 0xfa, 0, 0, 0, 0, 0, 0, 0, 0, 0, 0, 0, 0x01,
         ],
-        transaction_id: ZERO_ID,
+        tx: ZERO_ID,
         address: Addr::V6 {
             ip: [0x20, 0x01, 0x0d, 0xb8, 0, 0, 0, 0, 0, 0, 0, 0, 0, 0, 0, 1],
             port: 5000,
@@ -59,7 +59,7 @@ pub const ADDRESSES: [AddressRow; 4] = [
     // 198.51.100.2 port 4000
     AddressRow {
         value: &[0x00, 0x01, 0x2e, 0xb2, 0xe7, 0x21, 0xc0, 0x40],
-        transaction_id: ZERO_ID,
+        tx: ZERO_ID,
         address: Addr::V4 {
             ip: [198, 51, 100, 2],
             port: 4000,

@@ -29,18 +29,18 @@ fn kind(method: Method, class: Class) -> u16
 
 /// Demands credentials of an Allocate request: writes the reply, and returns its length. The pushes can't fail,
 /// and the contract needs no proof of its own.
-fn demand(out: &mut [u8], transaction_id: &[u8; 12], realm: &[u8], nonce: &[u8]) -> usize
+fn demand(out: &mut [u8], tx: &[u8; 12], realm: &[u8], nonce: &[u8]) -> usize
     requires room { 1500 ≤ length out.old }
     requires realm { length realm.now ≤ 128 }
     requires nonce { length nonce.now ≤ 64 }
     ensures inside { result ≤ length out.new }
     ensures bytes { take result out.new ≡ parts_bytes
-        (with_attribute (with_attribute (with_attribute (empty_message 0x0113 transaction_id.now)
+        (with_attribute (with_attribute (with_attribute (empty_message 0x0113 tx.now)
         ERROR_CODE (error_value Unauthenticated))
         REALM_TYPE realm.now)
         NONCE_TYPE nonce.now) }
 {
-    if begin(out, 0x0113, transaction_id).is_err() {
+    if begin(out, 0x0113, tx).is_err() {
         return 0;
     }
     let mut builder = Builder::resume(out);
@@ -51,21 +51,15 @@ fn demand(out: &mut [u8], transaction_id: &[u8; 12], realm: &[u8], nonce: &[u8])
 }
 
 /// Grants an allocation: writes the signed reply, and returns its length. This too needs no proof of its own.
-fn grant(
-    out: &mut [u8],
-    transaction_id: &[u8; 12],
-    relayed: &Addr,
-    seconds: u32,
-    key: &Key,
-) -> usize
+fn grant(out: &mut [u8], tx: &[u8; 12], relayed: &Addr, seconds: u32, key: &Key) -> usize
     requires room { 1500 ≤ length out.old }
     ensures inside { result ≤ length out.new }
     ensures bytes { take result out.new ≡ parts_bytes (with_integrity (key_bytes key.now)
-        (with_attribute (with_attribute (empty_message 0x0103 transaction_id.now)
-        RELAYED_TYPE (address_value relayed.now transaction_id.now))
+        (with_attribute (with_attribute (empty_message 0x0103 tx.now)
+        RELAYED_TYPE (address_value relayed.now tx.now))
         LIFETIME_TYPE (big_bytes 4 seconds))) }
 {
-    if begin(out, 0x0103, transaction_id).is_err() {
+    if begin(out, 0x0103, tx).is_err() {
         return 0;
     }
     let mut builder = Builder::resume(out);

@@ -18,7 +18,7 @@ pub struct Part {
 
 /// Whether the bytes are a message of this type and id, with exactly these attributes up to its
 /// MESSAGE-INTEGRITY.
-pub fn reads_as(bytes: &[u8], kind: u16, transaction_id: &[u8], parts: &[Part]) -> bool {
+pub fn reads_as(bytes: &[u8], kind: u16, tx: &[u8], parts: &[Part]) -> bool {
     let Ok(message) = read(bytes) else {
         return false;
     };
@@ -33,7 +33,5 @@ pub fn reads_as(bytes: &[u8], kind: u16, transaction_id: &[u8], parts: &[Part]) 
             }
         }
     }
-    wanted.next().is_none()
-        && message.kind() == kind
-        && message.transaction_id().as_slice() == transaction_id
+    wanted.next().is_none() && message.kind() == kind && message.tx().as_slice() == tx
 }

@@ -92,7 +92,7 @@ struct Open {
     /// Who sent the request that made it.
     sender: Sender,
     /// That of this request.
-    transaction_id: [u8; 12],
+    tx: [u8; 12],
 }
 
 /// The log of a server. Its memory is taken before the server listens.
@@ -207,7 +207,7 @@ fn refusal_of(response: Response) -> Option<RefusalReason> {
 impl Open {
     /// Returns whether it is an allocation of the tables.
     fn is(&self, allocation: &Allocation) -> bool {
-        self.sender.client == allocation.client && self.transaction_id == allocation.transaction_id
+        self.sender.client == allocation.client && self.tx == allocation.tx
     }
 }
 
@@ -271,7 +271,7 @@ impl ServerLog {
         if let Some(place) = self.open.get_mut(slot) {
             *place = Some(Open {
                 sender,
-                transaction_id: allocation.transaction_id,
+                tx: allocation.tx,
             });
             self.add(Happening::Made { slot, lifetime }, sender);
         }

@@ -151,7 +151,7 @@ pub const CLIENT: Context = Context {
         ip: [192, 0, 2, 7],
         port: 5000,
     },
-    transaction_id: [1, 2, 3, 4, 5, 6, 7, 8, 9, 10, 11, 12],
+    tx: [1, 2, 3, 4, 5, 6, 7, 8, 9, 10, 11, 12],
 };
 
 /// A datagram from a peer at 127.0.0.1:9, without a transaction.
@@ -161,7 +161,7 @@ pub const PEER: Context = Context {
         ip: [127, 0, 0, 1],
         port: 9,
     },
-    transaction_id: [0; 12],
+    tx: [0; 12],
 };
 
 /// Starts a frame on a datagram.

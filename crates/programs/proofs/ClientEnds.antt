@@ -39,13 +39,13 @@ sent_to verdict s = if verdict == 2 then (window_in s >>= λ bytes. destination_
 
 -- content goes to the address of a value, where the value is well-formed and the address permitted
 abbrev pub of_send : (Addr → Bool) → List ℕ → List ℕ → List ℕ → Option (Addr × List ℕ)
-of_send permits transaction_id value content = address_in transaction_id value >>= λ to. guard (permits to) >>= λ _. Some (to, content)
+of_send permits tx value content = address_in tx value >>= λ to. guard (permits to) >>= λ _. Some (to, content)
 
 -- of ChannelData, of a Send indication of two attributes in either order, of what else begins as STUN does, and of any other
 -- datagram
-pub record IsClientEnd (peer : ℕ → Option Addr) (permitted : Addr → Bool) (transaction_id d : List ℕ) (verdict : ℕ) (s : State) : Type 0 where
+pub record IsClientEnd (peer : ℕ → Option Addr) (permitted : Addr → Bool) (tx d : List ℕ) (verdict : ℕ) (s : State) : Type 0 where
   pub channel : 1 ≤ length d → 64 ≤ slice_index d 0 → slice_index d 0 < 128 → (verdict ≢ 1) × (sent_to verdict s ≡ channel_data peer d)
-  pub address_first : IsAddressFirst d → (verdict ≢ 1) × (sent_to verdict s ≡ of_send permitted transaction_id (part 8 24 d) (part (big_number 2 (drop 34 d)) 36 d))
-  pub data_first : IsDataFirst d → (verdict ≢ 1) × (sent_to verdict s ≡ of_send permitted transaction_id (part 8 (padded_length (big_number 2 (drop 22 d)) + 28) d) (part (big_number 2 (drop 22 d)) 24 d))
+  pub address_first : IsAddressFirst d → (verdict ≢ 1) × (sent_to verdict s ≡ of_send permitted tx (part 8 24 d) (part (big_number 2 (drop 34 d)) 36 d))
+  pub data_first : IsDataFirst d → (verdict ≢ 1) × (sent_to verdict s ≡ of_send permitted tx (part 8 (padded_length (big_number 2 (drop 22 d)) + 28) d) (part (big_number 2 (drop 22 d)) 24 d))
   pub passed : 1 ≤ length d → slice_index d 0 < 64 → (IsAddressFirst d → ⊥) → (IsDataFirst d → ⊥) → (verdict ≡ 1) × (datagram_in (length d) s ≡ d)
   pub other : (length d ≡ 0) ⊎ (128 ≤ slice_index d 0) → verdict ≡ 0

@@ -71,14 +71,14 @@ none_of true false false b' x y p q = refl
 none_of false b true b' x y p q = absurd cc
 none_of false b false b' x y p q = refl
 
-malformed : (transaction_id value : List ℕ) → length value ≡ 8 → slice_index value 1 ≢ 1 → address_in transaction_id value ≡ None
-malformed transaction_id value size e = none_of (nat_eq (length value) 8) (nat_eq (slice_index value 1) 1) (nat_eq (length value) 20) (nat_eq (slice_index value 1) 2) _ _ (other_eq _ _ e) (other_eq _ _ (λ bad. omega (arith, size, bad)))
+malformed : (tx value : List ℕ) → length value ≡ 8 → slice_index value 1 ≢ 1 → address_in tx value ≡ None
+malformed tx value size e = none_of (nat_eq (length value) 8) (nat_eq (slice_index value 1) 1) (nat_eq (length value) 20) (nat_eq (slice_index value 1) 2) _ _ (other_eq _ _ e) (other_eq _ _ (λ bad. omega (arith, size, bad)))
 
 abbrev address_of_value : List ℕ → Addr
 address_of_value value = V4 (xor_bytes 4 (drop 4 value) magic_cookie) (port_in value)
 
-wellformed : (transaction_id value : List ℕ) → length value ≡ 8 → slice_index value 1 ≡ 1 → address_in transaction_id value ≡ Some (address_of_value value)
-wellformed transaction_id value size e = first_of (nat_eq (length value) 8) (nat_eq (slice_index value 1) 1) _ _ (same_eq _ _ size) (same_eq _ _ e)
+wellformed : (tx value : List ℕ) → length value ≡ 8 → slice_index value 1 ≡ 1 → address_in tx value ≡ Some (address_of_value value)
+wellformed tx value size e = first_of (nat_eq (length value) 8) (nat_eq (slice_index value 1) 1) _ _ (same_eq _ _ size) (same_eq _ _ e)
 
 masked_fits : (ip : List ℕ) (i : ℕ) → slice_index (xor_bytes 4 ip magic_cookie) i < 256
 unfolding xor_bytes
@@ -131,9 +131,9 @@ module _ (d : List ℕ) (fit : IsDatagram d) (k : ℕ) (inside : k + 8 ≤ lengt
       let b3_is : b3 ≡ xor_bytes 4 (drop 4 value) magic_cookie = ip_bytes_are (part 4 (k + 4) d) ip_fits u1 u2 u3 b3 u1_is is_u2 is_u3 is3 ∙ ap (λ (l : List ℕ). xor_bytes 4 l magic_cookie) (sym ip_at) in
       λ i. is1 i ++ b2_is i ++ b3_is i
 
-module _ (w : Environment) (d : List ℕ) (peer : ℕ → Option Addr) (permitted : Addr → Bool) (answers : AnswersClient w.answer peer permitted) (transaction_id : List ℕ) (side : w.context.side ≡ 0) (fit : IsDatagram d) where
+module _ (w : Environment) (d : List ℕ) (peer : ℕ → Option Addr) (permitted : Addr → Bool) (answers : AnswersClient w.answer peer permitted) (tx : List ℕ) (side : w.context.side ≡ 0) (fit : IsDatagram d) where
   abbrev pub IsEnd : ℕ → State → Type 0
-  IsEnd v s = IsClientEnd peer permitted transaction_id d v s
+  IsEnd v s = IsClientEnd peer permitted tx d v s
 
   wrong : (v : ℕ) (s : State) → ⊥ → IsEnd v s
   wrong v s bad = absurd bad
@@ -174,9 +174,9 @@ module _ (w : Environment) (d : List ℕ) (peer : ℕ → Option Addr) (permitte
   }
 
   address_precondition : (k x y f n total at : ℕ) → k + 8 ≤ length d → f ≡ 64 + at → at + n ≤ length d
-      → ((v : ℕ) (s : State) → v ≢ 1 → sent_to v s ≡ of_send permitted transaction_id (part 8 k d) (part n at d) → IsEnd v s) → precondition w client_program is_cut IsEnd 20 (at_address k x y f n total)
+      → ((v : ℕ) (s : State) → v ≢ 1 → sent_to v s ≡ of_send permitted tx (part 8 k d) (part n at d) → IsEnd v s) → precondition w client_program is_cut IsEnd 20 (at_address k x y f n total)
   address_precondition k x y f n total at inside front whole ends = λ in0 family is_family. (
-    λ other. ends 0 _ (λ one. omega (arith, one)) (sym (ap (λ (o : Option Addr). o >>= λ to. guard (permitted to) >>= λ _. Some (to, part n at d)) (malformed transaction_id (part 8 k d) size (λ e. other (omega (arith, family_is family is_family, e, same_family)))))),
+    λ other. ends 0 _ (λ one. omega (arith, one)) (sym (ap (λ (o : Option Addr). o >>= λ to. guard (permitted to) >>= λ _. Some (to, part n at d)) (malformed tx (part 8 k d) size (λ e. other (omega (arith, family_is family is_family, e, same_family)))))),
     λ ipv4. let is_ipv4 : slice_index (part 8 k d) 1 ≡ 1 = omega (arith, ipv4, family_is family is_family, same_family, family_small) in
         λ b1 is_b1. λ in2 v is_v. λ v1 is_v1. λ v2 is_v2. λ v3 is_v3. λ b2 is_b2. λ in4 u is_u. λ u1 is_u1. λ u2 is_u2. λ u3 is_u3. λ b3 is_b3.
         let whole_record : b1 ++ b2 ++ b3 ≡ address_record (address_of_value (part 8 k d)) = pieces d fit k inside b1 b2 b3 v v1 v2 v3 u u1 u2 u3 is_b1 is_v is_v1 is_v2 is_v3 is_b2 is_u is_u1 is_u2 is_u3 is_b3 in
@@ -203,15 +203,15 @@ module _ (w : Environment) (d : List ℕ) (peer : ℕ → Option Addr) (permitte
       family_is : (v : ℕ) → v ≡ little_number 1 (part 1 (k + 1 + 64) (datagram_area d)) → v ≡ slice_index d (k + 1)
       family_is v e = let turned : k + 1 + 64 ≡ 64 + (k + 1) = omega arith in byte_in (k + 1) v d (omega (arith, inside)) (e ∙ ap (λ (i : ℕ). little_number 1 (part 1 i (datagram_area d))) turned)
 
-      refused : (v : ℕ) (s : State) → v ≡ 0 → slice_index (part 8 k d) 1 ≡ 1 → permitted (address_of_value (part 8 k d)) ≡ false → sent_to v s ≡ of_send permitted transaction_id (part 8 k d) (part n at d)
-      refused v s e is_ipv4 denied = rw (e, wellformed transaction_id (part 8 k d) size is_ipv4, denied) refl
+      refused : (v : ℕ) (s : State) → v ≡ 0 → slice_index (part 8 k d) 1 ≡ 1 → permitted (address_of_value (part 8 k d)) ≡ false → sent_to v s ≡ of_send permitted tx (part 8 k d) (part n at d)
+      refused v s e is_ipv4 denied = rw (e, wellformed tx (part 8 k d) size is_ipv4, denied) refl
 
       denied_ends : (v : ℕ) (s : State) → v ≡ 0 → slice_index (part 8 k d) 1 ≡ 1 → permitted (address_of_value (part 8 k d)) ≡ false → IsEnd v s
       denied_ends v s e is_ipv4 denied = ends v s (λ one. omega (arith, e, one)) (refused v s e is_ipv4 denied)
 
-      relayed : slice_index (part 8 k d) 1 ≡ 1 → permitted (address_of_value (part 8 k d)) ≡ true → Some (address_of (wide_record (address_of_value (part 8 k d))), part n at d) ≡ of_send permitted transaction_id (part 8 k d) (part n at d)
+      relayed : slice_index (part 8 k d) 1 ≡ 1 → permitted (address_of_value (part 8 k d)) ≡ true → Some (address_of (wide_record (address_of_value (part 8 k d))), part n at d) ≡ of_send permitted tx (part 8 k d) (part n at d)
       relayed is_ipv4 allows =
-          rw (wellformed transaction_id (part 8 k d) size is_ipv4, allows) (ap (λ (a : Addr). Some (a, part n at d)) (wide_back _ (port_in (part 8 k d)) (fits d fit k inside)))
+          rw (wellformed tx (part 8 k d) size is_ipv4, allows) (ap (λ (a : Addr). Some (a, part n at d)) (wide_back _ (port_in (part 8 k d)) (fits d fit k inside)))
 
   -- ---- ends
 
@@ -264,7 +264,7 @@ module _ (w : Environment) (d : List ℕ) (peer : ℕ → Option Addr) (permitte
       omega (arith, a.address, b.data_kind, b0, b1, b2, b3)
 
   -- an end of a Send of either order
-  address_end : IsAddressFirst d → (v : ℕ) (s : State) → v ≢ 1 → sent_to v s ≡ of_send permitted transaction_id (part 8 24 d) (part (big_number 2 (drop 34 d)) 36 d) → IsEnd v s
+  address_end : IsAddressFirst d → (v : ℕ) (s : State) → v ≢ 1 → sent_to v s ≡ of_send permitted tx (part 8 24 d) (part (big_number 2 (drop 34 d)) 36 d) → IsEnd v s
   address_end is v s alone same = record {
     channel = λ p from to. absurd (omega (arith, header_byte is.header, from));
     address_first = λ x. (alone, same);
@@ -277,7 +277,7 @@ module _ (w : Environment) (d : List ℕ) (peer : ℕ → Option Addr) (permitte
       neither (inl e) = omega (arith, e, is.header.long)
       neither (inr le) = omega (arith, le, header_byte is.header)
 
-  data_end : IsDataFirst d → (v : ℕ) (s : State) → v ≢ 1 → sent_to v s ≡ of_send permitted transaction_id (part 8 (padded_length (big_number 2 (drop 22 d)) + 28) d) (part (big_number 2 (drop 22 d)) 24 d) → IsEnd v s
+  data_end : IsDataFirst d → (v : ℕ) (s : State) → v ≢ 1 → sent_to v s ≡ of_send permitted tx (part 8 (padded_length (big_number 2 (drop 22 d)) + 28) d) (part (big_number 2 (drop 22 d)) 24 d) → IsEnd v s
   data_end is v s alone same = record {
     channel = λ p from to. absurd (omega (arith, header_byte is.header, from));
     address_first = λ x. absurd (both_orders x is);
@@ -325,7 +325,7 @@ module _ (w : Environment) (d : List ℕ) (peer : ℕ → Option Addr) (permitte
                           address = ap (λ (k : ℕ). big_number 4 (drop k d)) (sym place) ∙ word_is_big (q + 24) z d 0 0x12 0 8 word (omega arith) (omega arith) (omega arith) (omega (arith, address, z_small));
                         } in precondition_is_sound w client_program is_cut IsEnd 20 (at_address (q + 28) p z 88 n total)
                             (address_precondition (q + 28) p z 88 n total 24 (omega (arith, q_is, all)) refl (omega (arith, all, p_is))
-                            (λ v s alone same. data_end is v s alone (same ∙ ap₂ (λ (k m : ℕ). of_send permitted transaction_id (part 8 k d) (part m 24 d)) at_value n_is))),
+                            (λ v s alone same. data_end is v s alone (same ∙ ap₂ (λ (k m : ℕ). of_send permitted tx (part 8 k d) (part m 24 d)) at_value n_is))),
                       ),
                 ),
               ),
@@ -390,7 +390,7 @@ module _ (w : Environment) (d : List ℕ) (peer : ℕ → Option Addr) (permitte
                                           whole = omega (arith, all, p_of);
                                         } in precondition_is_sound w client_program is_cut IsEnd 20 (at_address 24 t y 100 n total)
                                         (address_precondition 24 t y 100 n total 36 (omega (arith, long)) refl (omega (arith, all, p_is))
-                                        (λ verdict s alone same. address_end is verdict s alone (same ∙ ap (λ (m : ℕ). of_send permitted transaction_id (part 8 24 d) (part m 36 d)) n_is))),
+                                        (λ verdict s alone same. address_end is verdict s alone (same ∙ ap (λ (m : ℕ). of_send permitted tx (part 8 24 d) (part m 36 d)) n_is))),
                                   ),
                             ),
                       ),

@@ -115,9 +115,9 @@ answers_client (Some slot) rows formed = record {
 
 -- ---- the start and the end
 
-is_possible : (client : Addr) (transaction_id : List ℕ) (rows : Rows) (datagram : List ℕ) → IsRelayStart client transaction_id rows datagram → IsPossible (environment_for transaction_id (Client client) rows)
-is_possible client transaction_id rows datagram start = record {
-  context = record { side = omega arith; source = record_bytes client start.is_address; wide_source = wide_record_bytes client start.is_address; transaction_id = start.id_bytes };
+is_possible : (client : Addr) (tx : List ℕ) (rows : Rows) (datagram : List ℕ) → IsRelayStart client tx rows datagram → IsPossible (environment_for tx (Client client) rows)
+is_possible client tx rows datagram start = record {
+  context = record { side = omega arith; source = record_bytes client start.is_address; wide_source = wide_record_bytes client start.is_address; tx = start.id_bytes };
   helpers = look_up_is_lawful rows start.well_formed (client_slot client rows);
 }
 
@@ -149,12 +149,12 @@ by_the_rules_of_send (Some at) rows p sent e = ap (λ (o : Option (Addr × List 
 
 -- where code is safe, it serves the client's side
 abbrev pub ServesIfSafe : List Insn → Type 0
-ServesIfSafe code = IsSafe code → (client : Addr) (transaction_id : List ℕ) (rows : Rows) (datagram : List ℕ) → IsRelayStart client transaction_id rows datagram → ServesClient code transaction_id client rows datagram
+ServesIfSafe code = IsSafe code → (client : Addr) (tx : List ℕ) (rows : Rows) (datagram : List ℕ) → IsRelayStart client tx rows datagram → ServesClient code tx client rows datagram
 
 module _ (found : (p : Parts) (bytes : List ℕ) → message_in bytes ≡ Some p → AreParts p × (bytes ≡ parts_bytes p)) (every : (p : Parts) (bytes : List ℕ) → AreParts p → bytes ≡ parts_bytes p → message_in bytes ≡ Some p)
-    (safe : IsSafe client_program) (client : Addr) (transaction_id : List ℕ) (rows : Rows) (datagram : List ℕ) (start : IsRelayStart client transaction_id rows datagram) where
+    (safe : IsSafe client_program) (client : Addr) (tx : List ℕ) (rows : Rows) (datagram : List ℕ) (start : IsRelayStart client tx rows datagram) where
   abbrev w : Environment
-  w = environment_for transaction_id (Client client) rows
+  w = environment_for tx (Client client) rows
 
   abbrev own : Option Allocation
   own = allocation_of client rows
@@ -163,17 +163,17 @@ module _ (found : (p : Parts) (bytes : List ℕ) → message_in bytes ≡ Some p
   slot = slot_of own
 
   abbrev final : State
-  final = (run_for client_program transaction_id (Client client) rows datagram).state
+  final = (run_for client_program tx (Client client) rows datagram).state
 
   -- the end of the run, where a value of XOR-PEER-ADDRESS is read under a transaction id
   ends : (id : List ℕ) → ExitsWith w client_program datagram (λ v s. IsClientEnd (peers_of slot rows) (permitted_in slot rows) id datagram v s)
   ends id =
       let keeps = client_exits_meet w datagram (peers_of slot rows) (permitted_in slot rows) (answers_client slot rows start.well_formed) id refl start.is_datagram in
-      safe_run_exits w client_program is_cut (λ v s. IsClientEnd (peers_of slot rows) (permitted_in slot rows) id datagram v s) datagram safe (is_possible client transaction_id rows datagram start) start.is_datagram keeps
+      safe_run_exits w client_program is_cut (λ v s. IsClientEnd (peers_of slot rows) (permitted_in slot rows) id datagram v s) datagram safe (is_possible client tx rows datagram start) start.is_datagram keeps
 
   -- what the run sends for a Send indication is what the rules send
-  relays_send : (p : Parts) (verdict : ℕ) → (run_for client_program transaction_id (Client client) rows datagram).ending ≡ Exited verdict → verdict ≢ PASSES → sent_to verdict final ≡ send (permitted_in slot rows) p
-      → Relays client_program transaction_id (Client client) rows datagram (send_from client rows p)
+  relays_send : (p : Parts) (verdict : ℕ) → (run_for client_program tx (Client client) rows datagram).ending ≡ Exited verdict → verdict ≢ PASSES → sent_to verdict final ≡ send (permitted_in slot rows) p
+      → Relays client_program tx (Client client) rows datagram (send_from client rows p)
   relays_send p verdict exits alone same = record {
     verdict = verdict;
     exits = exits;
@@ -181,27 +181,27 @@ module _ (found : (p : Parts) (bytes : List ℕ) → message_in bytes ≡ Some p
     sent = from_the_slot (verdict == 2) (window_in final) own (destination_in final) ∙ by_the_rules_of_send own rows p _ same;
   }
 
-  by_its_order : (p : Parts) → message_in datagram ≡ Some p → PassesTests datagram → Relays client_program transaction_id (Client client) rows datagram (send_from client rows p)
+  by_its_order : (p : Parts) → message_in datagram ≡ Some p → PassesTests datagram → Relays client_program tx (Client client) rows datagram (send_from client rows p)
   by_its_order p message (inl is) =
-      let end = ends p.transaction_id in
+      let end = ends p.tx in
       let owed = end.holds.address_first is in
       relays_send p end.verdict end.exits owed.0 (owed.1 ∙ sym (address_first_sends found every datagram start.is_datagram is (permitted_in slot rows) p message))
   by_its_order p message (inr is) =
-      let end = ends p.transaction_id in
+      let end = ends p.tx in
       let owed = end.holds.data_first is in
       let n : ℕ = big_number 2 (drop 22 datagram) in
       let place : padded_length n + 28 ≡ 28 + n + padding_count n = omega arith in
       relays_send p end.verdict end.exits owed.0
-      (owed.1 ∙ ap (λ (k : ℕ). of_send (permitted_in slot rows) p.transaction_id (part 8 k datagram) (part n 24 datagram)) place ∙ sym (data_first_sends found every datagram start.is_datagram is (permitted_in slot rows) p message))
+      (owed.1 ∙ ap (λ (k : ℕ). of_send (permitted_in slot rows) p.tx (part 8 k datagram) (part n 24 datagram)) place ∙ sym (data_first_sends found every datagram start.is_datagram is (permitted_in slot rows) p message))
 
   no_plain_send : ((p : Parts) → message_in datagram ≡ Some p → is_plain_send p ≡ false) → PassesTests datagram → ⊥
   no_plain_send none tests =
       let plain = is_plain found every datagram start.is_datagram tests in
       true≢false (sym plain.2 ∙ none plain.0 plain.1)
 
-  pub serves_client : ServesClient client_program transaction_id client rows datagram
+  pub serves_client : ServesClient client_program tx client rows datagram
   serves_client =
-      let end = ends transaction_id in
+      let end = ends tx in
       record {
         channel_data = λ begins.
             let first = channel_data_begins datagram begins in

@@ -38,6 +38,6 @@ pub record AnswersPeer (answer : ℕ → ℕ → AddressRecord → ℕ × Addres
 abbrev pub window_sent : ℕ → State → Option (List ℕ)
 window_sent verdict s = if verdict == 2 then window_in s else None
 
-pub record IsPeerEnd (allowed : Bool) (number : Option ℕ) (source : Addr) (transaction_id d : List ℕ) (verdict : ℕ) (s : State) : Type 0 where
+pub record IsPeerEnd (allowed : Bool) (number : Option ℕ) (source : Addr) (tx d : List ℕ) (verdict : ℕ) (s : State) : Type 0 where
   pub alone : verdict ≢ 1
-  pub sends : window_sent verdict s ≡ peer_data allowed number source transaction_id d
+  pub sends : window_sent verdict s ≡ peer_data allowed number source tx d

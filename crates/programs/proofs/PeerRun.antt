@@ -72,42 +72,42 @@ no_number (Some n) v range e none = absurd (omega (arith, e, none, range.0, rang
 -- ---- the run
 
 module _ (w : Environment) (d : List ℕ) (source : Addr) (allowed : Bool) (number : Option ℕ) (range : IfSome number (λ n. (0x4000 ≤ n) × (n ≤ 0x4fff))) (is : IsContext w.context) (fit : IsDatagram d) where
-  abbrev transaction_id : List ℕ
-  transaction_id = w.context.transaction_id
+  abbrev tx : List ℕ
+  tx = w.context.tx
 
   abbrev pub IsEnd : ℕ → State → Type 0
-  IsEnd v s = IsPeerEnd allowed number source transaction_id d v s
+  IsEnd v s = IsPeerEnd allowed number source tx d v s
 
   wrong : (v : ℕ) (s : State) → ⊥ → IsEnd v s
   wrong v s bad = absurd bad
 
-  refused : (v : ℕ) (s : State) → v ≡ 0 → peer_data allowed number source transaction_id d ≡ None → IsEnd v s
+  refused : (v : ℕ) (s : State) → v ≡ 0 → peer_data allowed number source tx d ≡ None → IsEnd v s
   refused v s e none = record { alone = λ one. omega (arith, e, one); sends = rw e (sym none) }
 
-  sends : (s : State) (bytes : List ℕ) → window_sent 2 s ≡ Some bytes → peer_data allowed number source transaction_id d ≡ Some bytes → IsEnd 2 s
+  sends : (s : State) (bytes : List ℕ) → window_sent 2 s ≡ Some bytes → peer_data allowed number source tx d ≡ Some bytes → IsEnd 2 s
   sends s bytes e f = record { alone = λ one. omega (arith, one); sends = e ∙ sym f }
 
-  without : allowed ≡ false → peer_data allowed number source transaction_id d ≡ None
+  without : allowed ≡ false → peer_data allowed number source tx d ≡ None
   without e = rw e refl
 
-  id_head_bytes : AreBytes 8 (take 8 transaction_id)
-  id_head_bytes = record { count = omega (arith, length-take 8 transaction_id, is.transaction_id.count); fit = All-take (λ b. b < 256) 8 transaction_id is.transaction_id.fit }
+  id_head_bytes : AreBytes 8 (take 8 tx)
+  id_head_bytes = record { count = omega (arith, length-take 8 tx, is.tx.count); fit = All-take (λ b. b < 256) 8 tx is.tx.fit }
 
-  id_tail_bytes : AreBytes 4 (drop 8 transaction_id)
-  id_tail_bytes = record { count = omega (arith, length-drop 8 transaction_id, is.transaction_id.count); fit = All-drop (λ b. b < 256) 8 transaction_id is.transaction_id.fit }
+  id_tail_bytes : AreBytes 4 (drop 8 tx)
+  id_tail_bytes = record { count = omega (arith, length-drop 8 tx, is.tx.count); fit = All-drop (λ b. b < 256) 8 tx is.tx.fit }
 
   -- ---- with a channel
 
-  from_channel : (n : ℕ) → allowed ≡ true → number ≡ Some n → peer_data allowed number source transaction_id d ≡ limited (channel_bytes (record { number = n; bytes = d }))
+  from_channel : (n : ℕ) → allowed ≡ true → number ≡ Some n → peer_data allowed number source tx d ≡ limited (channel_bytes (record { number = n; bytes = d }))
   from_channel n e f = rw (e, f) refl
 
   long_channel : (n : ℕ) → length (channel_bytes (record { number = n; bytes = d })) ≡ 4 + length d
   long_channel n = omega arith
 
-  no_channel : (n : ℕ) → allowed ≡ true → number ≡ Some n → 65503 < length d → peer_data allowed number source transaction_id d ≡ None
+  no_channel : (n : ℕ) → allowed ≡ true → number ≡ Some n → 65503 < length d → peer_data allowed number source tx d ≡ None
   no_channel n e f lt = from_channel n e f ∙ limited_none (channel_bytes (record { number = n; bytes = d })) (omega (arith, long_channel n, lt))
 
-  channel_so : (n : ℕ) → allowed ≡ true → number ≡ Some n → length d ≤ 65503 → peer_data allowed number source transaction_id d ≡ Some (channel_bytes (record { number = n; bytes = d }))
+  channel_so : (n : ℕ) → allowed ≡ true → number ≡ Some n → length d ≤ 65503 → peer_data allowed number source tx d ≡ Some (channel_bytes (record { number = n; bytes = d }))
   channel_so n e f le = from_channel n e f ∙ limited_some (channel_bytes (record { number = n; bytes = d })) (omega (arith, long_channel n, le))
 
   -- where a part starts that sends: with the channel's number, the source's record or its head, the datagram's length, and
@@ -144,7 +144,7 @@ module _ (w : Environment) (d : List ℕ) (source : Addr) (allowed : Bool) (numb
 
 module _ (w : Environment) (d ip : List ℕ) (port : ℕ) (fits : HasWidth 4 ip port) (allowed : Bool) (number : Option ℕ) (is_source : w.context.source ≡ address_record (V4 ip port)) (answers : AnswersPeer w.answer (V4 ip port) allowed number) (is : IsContext w.context) (fit : IsDatagram d) where
   abbrev id_4 : List ℕ
-  id_4 = w.context.transaction_id
+  id_4 = w.context.tx
 
   abbrev IsEnd_4 : ℕ → State → Type 0
   IsEnd_4 v s = IsPeerEnd allowed number (V4 ip port) id_4 d v s
@@ -162,7 +162,7 @@ module _ (w : Environment) (d ip : List ℕ) (port : ℕ) (fits : HasWidth 4 ip 
       let count : length attributes ≡ 16 + p =
       ap length (attributes_are ip d id_4 port) ∙ length-append (after_header ip port (length d)) tail ∙ omega (arith, length-after_header ip port (length d), length-append d (replicate (padding_count (length d)) 0), length-replicate {A = ℕ} (padding_count (length d)) 0, e) in
       let head : List ℕ = big_bytes 2 0x0017 ++ big_bytes 2 (length attributes) ++ big_bytes 4 magic_cookie in
-      omega (arith, length-append (head ++ id_4) attributes, length-append head id_4, count, is.transaction_id.count)
+      omega (arith, length-append (head ++ id_4) attributes, length-append head id_4, count, is.tx.count)
 
   no_indication : allowed ≡ true → number ≡ None → 65468 < length d → data_4 ≡ None
   no_indication e f lt = from_indication e f ∙ limited_none (parts_bytes (indication ip port id_4 d)) (omega (arith, long_indication (length d + padding_count (length d)) refl, lt))
@@ -206,7 +206,7 @@ module _ (w : Environment) (d ip : List ℕ) (port : ℕ) (fits : HasWidth 4 ip 
           data_kind = is_b10;
           size = is_b11 ∙ stored_half n y (omega (arith, n_is, short_d)) is_y ∙ ap (big_bytes 2) n_is;
         } in (
-          λ fitting. sends w d (V4 ip port) allowed number answers.range is fit _ (parts_bytes (indication ip port id_4 d)) (ap Some (indication_window ip d id_4 port p t b1 b2 b3 b4 b5 b6 b7 b8 b9 b10 b11 is.transaction_id.count header p_is t_is)) (indication_so allows unbound short_d),
+          λ fitting. sends w d (V4 ip port) allowed number answers.range is fit _ (parts_bytes (indication ip port id_4 d)) (ap Some (indication_window ip d id_4 port p t b1 b2 b3 b4 b5 b6 b7 b8 b9 b10 b11 is.tx.count header p_is t_is)) (indication_so allows unbound short_d),
           λ no_room. wrong w d (V4 ip port) allowed number answers.range is fit 2 _ (too_wide p t p_is t_is short_d no_room),
         ),
   )
@@ -245,7 +245,7 @@ module _ (w : Environment) (d ip : List ℕ) (port : ℕ) (fits : HasWidth 4 ip 
 
 module _ (w : Environment) (d ip : List ℕ) (port : ℕ) (fits : HasWidth 16 ip port) (allowed : Bool) (number : Option ℕ) (is_source : w.context.source ≡ address_record (V6 ip port)) (is_wide : w.context.wide_source ≡ wide_record (V6 ip port)) (answers : AnswersPeer w.answer (V6 ip port) allowed number) (is : IsContext w.context) (fit : IsDatagram d) where
   abbrev id_6 : List ℕ
-  id_6 = w.context.transaction_id
+  id_6 = w.context.tx
 
   abbrev wide : List ℕ
   wide = wide_record (V6 ip port)
@@ -266,7 +266,7 @@ module _ (w : Environment) (d ip : List ℕ) (port : ℕ) (fits : HasWidth 16 ip
       let count : length attributes ≡ 28 + p =
       ap length (attributes_are_6 ip d id_6 port) ∙ length-append (after_header_6 ip port id_6 (length d)) tail ∙ omega (arith, length-after_header_6 ip id_6 port (length d), length-append d (replicate (padding_count (length d)) 0), length-replicate {A = ℕ} (padding_count (length d)) 0, e) in
       let head : List ℕ = big_bytes 2 0x0017 ++ big_bytes 2 (length attributes) ++ big_bytes 4 magic_cookie in
-      omega (arith, length-append (head ++ id_6) attributes, length-append head id_6, count, is.transaction_id.count)
+      omega (arith, length-append (head ++ id_6) attributes, length-append head id_6, count, is.tx.count)
 
   no_indication_6 : allowed ≡ true → number ≡ None → 65456 < length d → data_6 ≡ None
   no_indication_6 e f lt = from_indication_6 e f ∙ limited_none (parts_bytes (indication_6 ip port id_6 d)) (omega (arith, long_indication_6 (length d + padding_count (length d)) refl, lt))
@@ -336,7 +336,7 @@ module _ (w : Environment) (d ip : List ℕ) (port : ℕ) (fits : HasWidth 16 ip
           data_kind = is_b10;
           size = is_b11 ∙ stored_half n u (omega (arith, n_is, short_d)) is_u ∙ ap (big_bytes 2) n_is;
         } in (
-          λ fitting. sends w d (V6 ip port) allowed number answers.range is fit _ (parts_bytes (indication_6 ip port id_6 d)) (ap Some (indication_window_6 ip d id_6 port p t b1 b2 b3 b4 b5 b6 b7 b8 b9 b10 b11 fits is.transaction_id header p_is t_is)) (indication_so_6 allows unbound short_d),
+          λ fitting. sends w d (V6 ip port) allowed number answers.range is fit _ (parts_bytes (indication_6 ip port id_6 d)) (ap Some (indication_window_6 ip d id_6 port p t b1 b2 b3 b4 b5 b6 b7 b8 b9 b10 b11 fits is.tx header p_is t_is)) (indication_so_6 allows unbound short_d),
           λ no_room. wrong w d (V6 ip port) allowed number answers.range is fit 2 _ (too_wide p t p_is t_is short_d no_room),
         ),
   )

@@ -63,9 +63,9 @@ answers_peer slot (V6 ip port) rows fits formed = record {
 
 -- ---- the start and the end
 
-is_possible : (slot : ℕ) (peer : Addr) (transaction_id : List ℕ) (rows : Rows) (datagram : List ℕ) → IsRelayStart peer transaction_id rows datagram → IsPossible (environment_for transaction_id (Peer slot peer) rows)
-is_possible slot peer transaction_id rows datagram start = record {
-  context = record { side = omega arith; source = record_bytes peer start.is_address; wide_source = wide_record_bytes peer start.is_address; transaction_id = start.id_bytes };
+is_possible : (slot : ℕ) (peer : Addr) (tx : List ℕ) (rows : Rows) (datagram : List ℕ) → IsRelayStart peer tx rows datagram → IsPossible (environment_for tx (Peer slot peer) rows)
+is_possible slot peer tx rows datagram start = record {
+  context = record { side = omega arith; source = record_bytes peer start.is_address; wide_source = wide_record_bytes peer start.is_address; tx = start.id_bytes };
   helpers = look_up_is_lawful rows start.well_formed (Some slot);
 }
 
@@ -81,11 +81,11 @@ to_the_client false window (Some to) = refl
 
 -- where code is safe, it serves the peers' side
 abbrev pub ServesIfSafe : List Insn → Type 0
-ServesIfSafe code = IsSafe code → (slot : ℕ) (peer : Addr) (transaction_id : List ℕ) (rows : Rows) (datagram : List ℕ) → IsRelayStart peer transaction_id rows datagram → ServesPeer code transaction_id slot peer rows datagram
+ServesIfSafe code = IsSafe code → (slot : ℕ) (peer : Addr) (tx : List ℕ) (rows : Rows) (datagram : List ℕ) → IsRelayStart peer tx rows datagram → ServesPeer code tx slot peer rows datagram
 
-module _ (safe : IsSafe peer_program) (slot : ℕ) (peer : Addr) (transaction_id : List ℕ) (rows : Rows) (datagram : List ℕ) (starts : IsRelayStart peer transaction_id rows datagram) where
+module _ (safe : IsSafe peer_program) (slot : ℕ) (peer : Addr) (tx : List ℕ) (rows : Rows) (datagram : List ℕ) (starts : IsRelayStart peer tx rows datagram) where
   abbrev w : Environment
-  w = environment_for transaction_id (Peer slot peer) rows
+  w = environment_for tx (Peer slot peer) rows
 
   abbrev allowed : Bool
   allowed = has_permission slot peer rows
@@ -93,9 +93,9 @@ module _ (safe : IsSafe peer_program) (slot : ℕ) (peer : Addr) (transaction_id
   abbrev number : Option ℕ
   number = channel_of slot peer rows
 
-  serves_where : ExitsMeet w peer_program is_cut (λ v s. IsPeerEnd allowed number peer transaction_id datagram v s) (start datagram) → ServesPeer peer_program transaction_id slot peer rows datagram
+  serves_where : ExitsMeet w peer_program is_cut (λ v s. IsPeerEnd allowed number peer tx datagram v s) (start datagram) → ServesPeer peer_program tx slot peer rows datagram
   serves_where keeps =
-      let end = safe_run_exits w peer_program is_cut (λ v s. IsPeerEnd allowed number peer transaction_id datagram v s) datagram safe (is_possible slot peer transaction_id rows datagram starts) starts.is_datagram keeps in
+      let end = safe_run_exits w peer_program is_cut (λ v s. IsPeerEnd allowed number peer tx datagram v s) datagram safe (is_possible slot peer tx rows datagram starts) starts.is_datagram keeps in
       record {
         verdict = end.verdict;
         exits = end.exits;
@@ -104,11 +104,11 @@ module _ (safe : IsSafe peer_program) (slot : ℕ) (peer : Addr) (transaction_id
       }
 
 pub peer_program_serves : ServesIfSafe peer_program
-peer_program_serves safe slot (V4 ip port) transaction_id rows datagram starts =
-    serves_where safe slot (V4 ip port) transaction_id rows datagram starts
-    (peer_exits_meet_4 (environment_for transaction_id (Peer slot (V4 ip port)) rows) datagram ip port starts.is_address (has_permission slot (V4 ip port) rows) (channel_of slot (V4 ip port) rows) refl
-    (answers_peer slot (V4 ip port) rows starts.is_address starts.well_formed) (is_possible slot (V4 ip port) transaction_id rows datagram starts).context starts.is_datagram)
-peer_program_serves safe slot (V6 ip port) transaction_id rows datagram starts =
-    serves_where safe slot (V6 ip port) transaction_id rows datagram starts
-    (peer_exits_meet_6 (environment_for transaction_id (Peer slot (V6 ip port)) rows) datagram ip port starts.is_address (has_permission slot (V6 ip port) rows) (channel_of slot (V6 ip port) rows) refl refl
-    (answers_peer slot (V6 ip port) rows starts.is_address starts.well_formed) (is_possible slot (V6 ip port) transaction_id rows datagram starts).context starts.is_datagram)
+peer_program_serves safe slot (V4 ip port) tx rows datagram starts =
+    serves_where safe slot (V4 ip port) tx rows datagram starts
+    (peer_exits_meet_4 (environment_for tx (Peer slot (V4 ip port)) rows) datagram ip port starts.is_address (has_permission slot (V4 ip port) rows) (channel_of slot (V4 ip port) rows) refl
+    (answers_peer slot (V4 ip port) rows starts.is_address starts.well_formed) (is_possible slot (V4 ip port) tx rows datagram starts).context starts.is_datagram)
+peer_program_serves safe slot (V6 ip port) tx rows datagram starts =
+    serves_where safe slot (V6 ip port) tx rows datagram starts
+    (peer_exits_meet_6 (environment_for tx (Peer slot (V6 ip port)) rows) datagram ip port starts.is_address (has_permission slot (V6 ip port) rows) (channel_of slot (V6 ip port) rows) refl refl
+    (answers_peer slot (V6 ip port) rows starts.is_address starts.well_formed) (is_possible slot (V6 ip port) tx rows datagram starts).context starts.is_datagram)

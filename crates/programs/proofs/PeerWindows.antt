@@ -40,23 +40,23 @@ channel_window b1 b2 d n t e f is =
 -- ---- a Data indication
 
 abbrev pub indication : List ℕ → ℕ → List ℕ → List ℕ → Parts
-indication ip port transaction_id d = with_attribute (with_attribute (empty_message data_indication transaction_id) XOR_PEER_ADDRESS (address_value (V4 ip port) transaction_id)) DATA d
+indication ip port tx d = with_attribute (with_attribute (empty_message data_indication tx) XOR_PEER_ADDRESS (address_value (V4 ip port) tx)) DATA d
 
 -- the sixteen bytes attributes_front the header, and the data
 abbrev pub after_header : List ℕ → ℕ → ℕ → List ℕ
 after_header ip port n = 0 ∷ 0x12 ∷ 0 ∷ 8 ∷ 0 ∷ 1 ∷ big_bytes 2 (bit_xor port cookie_half) ++ xor_bytes 4 ip magic_cookie ++ 0 ∷ 0x13 ∷ big_bytes 2 n
 
-pub attributes_are : (ip d transaction_id : List ℕ) (port : ℕ) → attributes_bytes (indication ip port transaction_id d).attributes ≡ after_header ip port (length d) ++ (d ++ replicate (padding_count (length d)) 0)
+pub attributes_are : (ip d tx : List ℕ) (port : ℕ) → attributes_bytes (indication ip port tx d).attributes ≡ after_header ip port (length d) ++ (d ++ replicate (padding_count (length d)) 0)
 unfolding address_value xor_bytes
-attributes_are ip d transaction_id port = ap (λ (l : List ℕ). after_header ip port (length d) ++ l) (append-nil (d ++ replicate (padding_count (length d)) 0))
+attributes_are ip d tx port = ap (λ (l : List ℕ). after_header ip port (length d) ++ l) (append-nil (d ++ replicate (padding_count (length d)) 0))
 
 -- the parts of a header as they are stored, one attributes_front the other
-pub record AreHeader (ip transaction_id : List ℕ) (port n p : ℕ) (b1 b2 b3 b4 b5 b6 b7 b8 b9 b10 b11 : List ℕ) : Type 0 where
+pub record AreHeader (ip tx : List ℕ) (port n p : ℕ) (b1 b2 b3 b4 b5 b6 b7 b8 b9 b10 b11 : List ℕ) : Type 0 where
   pub kind : b1 ≡ 0 ∷ 0x17 ∷ []
   pub rest : b2 ≡ big_bytes 2 (16 + p)
   pub cookie : b3 ≡ big_bytes 4 magic_cookie
-  pub id_head : b4 ≡ take 8 transaction_id
-  pub id_tail : b5 ≡ drop 8 transaction_id
+  pub id_head : b4 ≡ take 8 tx
+  pub id_tail : b5 ≡ drop 8 tx
   pub address : b6 ≡ 0 ∷ 0x12 ∷ 0 ∷ 8 ∷ []
   pub family : b7 ≡ 0 ∷ 1 ∷ []
   pub port_is : b8 ≡ big_bytes 2 (bit_xor port cookie_half)
@@ -75,9 +75,9 @@ pub length-masked : (ip : List ℕ) → length (xor_bytes 4 ip magic_cookie) ≡
 unfolding xor_bytes
 length-masked ip = refl
 
-after_header_is : (ip transaction_id : List ℕ) (port n p : ℕ) (b1 b2 b3 b4 b5 b6 b7 b8 b9 b10 b11 : List ℕ) → AreHeader ip transaction_id port n p b1 b2 b3 b4 b5 b6 b7 b8 b9 b10 b11 → b6 ++ b7 ++ b8 ++ b9 ++ b10 ++ b11 ≡ after_header ip port n
+after_header_is : (ip tx : List ℕ) (port n p : ℕ) (b1 b2 b3 b4 b5 b6 b7 b8 b9 b10 b11 : List ℕ) → AreHeader ip tx port n p b1 b2 b3 b4 b5 b6 b7 b8 b9 b10 b11 → b6 ++ b7 ++ b8 ++ b9 ++ b10 ++ b11 ≡ after_header ip port n
 unfolding xor_bytes
-after_header_is ip transaction_id port n p b1 b2 b3 b4 b5 b6 b7 b8 b9 b10 b11 are =
+after_header_is ip tx port n p b1 b2 b3 b4 b5 b6 b7 b8 b9 b10 b11 are =
     λ i. are.address i ++ are.family i ++ are.port_is i ++ are.ip_is i ++ are.data_kind i ++ are.size i
 
 pub length-after_header : (ip : List ℕ) (port n : ℕ) → length (after_header ip port n) ≡ 16
@@ -100,35 +100,35 @@ six_puts b6 b7 b8 b9 b10 b11 s l6 l7 l8 l9 l10 =
 pub padding_is_short : (n : ℕ) → padding_count n ≤ 3
 padding_is_short n = omega arith
 
-pub indication_window : (ip d transaction_id : List ℕ) (port p t : ℕ) (b1 b2 b3 b4 b5 b6 b7 b8 b9 b10 b11 : List ℕ) → length transaction_id ≡ 12 → AreHeader ip transaction_id port (length d) p b1 b2 b3 b4 b5 b6 b7 b8 b9 b10 b11
+pub indication_window : (ip d tx : List ℕ) (port p t : ℕ) (b1 b2 b3 b4 b5 b6 b7 b8 b9 b10 b11 : List ℕ) → length tx ≡ 12 → AreHeader ip tx port (length d) p b1 b2 b3 b4 b5 b6 b7 b8 b9 b10 b11
     → p ≡ length d + padding_count (length d) → t ≡ 36 + p
-    → part t 28 (overlay 62 b11 (overlay 60 b10 (overlay 56 b9 (overlay 54 b8 (overlay 52 b7 (overlay 48 b6 (overlay 44 b5 (overlay 36 b4 (overlay 32 b3 (overlay 30 b2 (overlay 28 b1 (datagram_area d)))))))))))) ≡ parts_bytes (indication ip port transaction_id d)
-indication_window ip d transaction_id port p t b1 b2 b3 b4 b5 b6 b7 b8 b9 b10 b11 id are is_p is_t =
+    → part t 28 (overlay 62 b11 (overlay 60 b10 (overlay 56 b9 (overlay 54 b8 (overlay 52 b7 (overlay 48 b6 (overlay 44 b5 (overlay 36 b4 (overlay 32 b3 (overlay 30 b2 (overlay 28 b1 (datagram_area d)))))))))))) ≡ parts_bytes (indication ip port tx d)
+indication_window ip d tx port p t b1 b2 b3 b4 b5 b6 b7 b8 b9 b10 b11 id are is_p is_t =
     let s : List ℕ = datagram_area d in
     let l1 : length b1 ≡ 2 = ap length are.kind in
     let l2 : length b2 ≡ 2 = ap length are.rest in
     let l3 : length b3 ≡ 4 = ap length are.cookie in
-    let l45 : b4 ++ b5 ≡ transaction_id = ap₂ (λ (a b : List ℕ). a ++ b) are.id_head are.id_tail ∙ take-append-drop 8 transaction_id in
-    let l4 : length b4 ≡ 8 = omega (arith, ap length are.id_head, length-take 8 transaction_id, id) in
+    let l45 : b4 ++ b5 ≡ tx = ap₂ (λ (a b : List ℕ). a ++ b) are.id_head are.id_tail ∙ take-append-drop 8 tx in
+    let l4 : length b4 ≡ 8 = omega (arith, ap length are.id_head, length-take 8 tx, id) in
     let front : List ℕ = b1 ++ b2 ++ b3 in
     let attributes_front : List ℕ = b6 ++ b7 ++ b8 ++ b9 ++ b10 ++ b11 in
     let tail : List ℕ = d ++ replicate (padding_count (length d)) 0 in
     let lf : length front ≡ 8 = omega (arith, length-append (b1 ++ b2) b3, length-append b1 b2, l1, l2, l3) in
-    let lm : length (front ++ transaction_id) ≡ 20 = omega (arith, length-append front transaction_id, lf, id) in
-    let is_after : attributes_front ≡ after_header ip port (length d) = after_header_is ip transaction_id port (length d) p b1 b2 b3 b4 b5 b6 b7 b8 b9 b10 b11 are in
-    let la : length ((front ++ transaction_id) ++ attributes_front) ≡ 36 = omega (arith, length-append (front ++ transaction_id) attributes_front, lm, ap length is_after, length-after_header ip port (length d)) in
-    let attributes : attributes_bytes (indication ip port transaction_id d).attributes ≡ after_header ip port (length d) ++ tail = attributes_are ip d transaction_id port in
-    let count : length (attributes_bytes (indication ip port transaction_id d).attributes) ≡ 16 + p =
+    let lm : length (front ++ tx) ≡ 20 = omega (arith, length-append front tx, lf, id) in
+    let is_after : attributes_front ≡ after_header ip port (length d) = after_header_is ip tx port (length d) p b1 b2 b3 b4 b5 b6 b7 b8 b9 b10 b11 are in
+    let la : length ((front ++ tx) ++ attributes_front) ≡ 36 = omega (arith, length-append (front ++ tx) attributes_front, lm, ap length is_after, length-after_header ip port (length d)) in
+    let attributes : attributes_bytes (indication ip port tx d).attributes ≡ after_header ip port (length d) ++ tail = attributes_are ip d tx port in
+    let count : length (attributes_bytes (indication ip port tx d).attributes) ≡ 16 + p =
     ap length attributes ∙ length-append (after_header ip port (length d)) tail ∙ omega (arith, length-after_header ip port (length d), length-append d (replicate (padding_count (length d)) 0), length-replicate {A = ℕ} (padding_count (length d)) 0, is_p) in
-    let stored : overlay 62 b11 (overlay 60 b10 (overlay 56 b9 (overlay 54 b8 (overlay 52 b7 (overlay 48 b6 (overlay 44 b5 (overlay 36 b4 (overlay 32 b3 (overlay 30 b2 (overlay 28 b1 s)))))))))) ≡ overlay 28 ((front ++ transaction_id) ++ attributes_front) s =
+    let stored : overlay 62 b11 (overlay 60 b10 (overlay 56 b9 (overlay 54 b8 (overlay 52 b7 (overlay 48 b6 (overlay 44 b5 (overlay 36 b4 (overlay 32 b3 (overlay 30 b2 (overlay 28 b1 s)))))))))) ≡ overlay 28 ((front ++ tx) ++ attributes_front) s =
     six_puts b6 b7 b8 b9 b10 b11 _ (ap length are.address) (ap length are.family) (ap length are.port_is) (ap length are.ip_is ∙ length-masked ip) (ap length are.data_kind)
     ∙ ap (overlay 48 attributes_front)
-    (put_after_put 36 44 b4 b5 _ (omega (arith, l4)) ∙ ap₂ (λ (a l : List ℕ). overlay 36 a l) l45 (three_puts 28 b1 b2 b3 s 30 32 (omega (arith, l1)) (omega (arith, l2))) ∙ put_after_put 28 36 front transaction_id s (omega (arith, lf)))
-    ∙ put_after_put 28 48 (front ++ transaction_id) attributes_front s (omega (arith, lm)) in
-    ap (part t 28) stored ∙ part_of_header 36 t p 28 ((front ++ transaction_id) ++ attributes_front) d la refl is_t
-    ∙ ap (λ (l : List ℕ). ((front ++ transaction_id) ++ attributes_front) ++ l) (datagram_and_zeros p (padding_count (length d)) d is_p (padding_is_short (length d)))
-    ∙ append_assoc (front ++ transaction_id) attributes_front tail
-    ∙ ap₂ (λ (a b : List ℕ). (a ++ transaction_id) ++ b) (ap₂ (λ (a b : List ℕ). a ++ b) (ap₂ (λ (a b : List ℕ). a ++ b) are.kind (are.rest ∙ ap (big_bytes 2) (sym count))) are.cookie) (ap (λ (l : List ℕ). l ++ tail) is_after ∙ sym attributes)
+    (put_after_put 36 44 b4 b5 _ (omega (arith, l4)) ∙ ap₂ (λ (a l : List ℕ). overlay 36 a l) l45 (three_puts 28 b1 b2 b3 s 30 32 (omega (arith, l1)) (omega (arith, l2))) ∙ put_after_put 28 36 front tx s (omega (arith, lf)))
+    ∙ put_after_put 28 48 (front ++ tx) attributes_front s (omega (arith, lm)) in
+    ap (part t 28) stored ∙ part_of_header 36 t p 28 ((front ++ tx) ++ attributes_front) d la refl is_t
+    ∙ ap (λ (l : List ℕ). ((front ++ tx) ++ attributes_front) ++ l) (datagram_and_zeros p (padding_count (length d)) d is_p (padding_is_short (length d)))
+    ∙ append_assoc (front ++ tx) attributes_front tail
+    ∙ ap₂ (λ (a b : List ℕ). (a ++ tx) ++ b) (ap₂ (λ (a b : List ℕ). a ++ b) (ap₂ (λ (a b : List ℕ). a ++ b) are.kind (are.rest ∙ ap (big_bytes 2) (sym count))) are.cookie) (ap (λ (l : List ℕ). l ++ tail) is_after ∙ sym attributes)
 
 -- ---- the numbers of a header
 

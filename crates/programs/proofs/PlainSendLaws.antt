@@ -39,8 +39,8 @@ content_is : (a : PaddedAttribute) → is_content a ≡ true → a ≡ record { 
 content_is a is = let kind : a.kind ≡ 0x13 = eqb-true _ _ is in λ i. record { kind = kind i; value = a.value; padding = a.padding }
 
 module _ (d : List ℕ) (p : Parts) (fit : IsDatagram d) (are : AreParts p) (bytes : d ≡ parts_bytes p) (kind : p.kind ≡ 0x16) where
-  spelled_by : (attributes : List PaddedAttribute) → p.attributes ≡ attributes → d ≡ parts_bytes (record { kind = 0x16; transaction_id = p.transaction_id; attributes = attributes })
-  spelled_by attributes e = bytes ∙ (λ i. parts_bytes (record { kind = kind i; transaction_id = p.transaction_id; attributes = e i }))
+  spelled_by : (attributes : List PaddedAttribute) → p.attributes ≡ attributes → d ≡ parts_bytes (record { kind = 0x16; tx = p.tx; attributes = attributes })
+  spelled_by attributes e = bytes ∙ (λ i. parts_bytes (record { kind = kind i; tx = p.tx; attributes = e i }))
 
   two_attributes : (a b : PaddedAttribute) → p.attributes ≡ a ∷ b ∷ [] → ((is_short_address a && is_content b) ≡ true) ⊎ ((is_content a && is_short_address b) ≡ true) → PassesTests d
   two_attributes a b e (inl is) =
@@ -48,13 +48,13 @@ module _ (d : List ℕ) (p : Parts) (fit : IsDatagram d) (are : AreParts p) (byt
       let are_padded : IsPadded a × (IsPadded b × Unit {0}) = subst (AllByRecursion IsPadded) e are.attributes in
       let address = short_address_is a are_padded.0 both.0 in
       let content = content_is b both.1 in
-      inl (address_first_back d p.transaction_id a.value b.value b.padding are.transaction_id address.1 are_padded.1.0.padding fit.short (spelled_by _ (e ∙ (λ i. address.0 i ∷ content i ∷ []))))
+      inl (address_first_back d p.tx a.value b.value b.padding are.tx address.1 are_padded.1.0.padding fit.short (spelled_by _ (e ∙ (λ i. address.0 i ∷ content i ∷ []))))
   two_attributes a b e (inr is) =
       let both = and_parts (is_content a) (is_short_address b) is in
       let are_padded : IsPadded a × (IsPadded b × Unit {0}) = subst (AllByRecursion IsPadded) e are.attributes in
       let address = short_address_is b are_padded.1.0 both.1 in
       let content = content_is a both.0 in
-      inr (data_first_back d p.transaction_id b.value a.value a.padding are.transaction_id address.1 are_padded.0.padding fit.short (spelled_by _ (e ∙ (λ i. content i ∷ address.0 i ∷ []))))
+      inr (data_first_back d p.tx b.value a.value a.padding are.tx address.1 are_padded.0.padding fit.short (spelled_by _ (e ∙ (λ i. content i ∷ address.0 i ∷ []))))
 
   tests_of : (attributes : List PaddedAttribute) → p.attributes ≡ attributes → are_address_and_content attributes ≡ true → PassesTests d
   tests_of [] e is = absurd cc
@@ -92,13 +92,13 @@ module _ (found : (p : Parts) (bytes : List ℕ) → message_in bytes ≡ Some p
   -- ---- what the rules send of it
 
   pub address_first_sends : IsAddressFirst d → (permits : Addr → Bool) (p : Parts) → message_in d ≡ Some p
-      → send permits p ≡ of_send permits p.transaction_id (part 8 24 d) (part (big_number 2 (drop 34 d)) 36 d)
+      → send permits p ≡ of_send permits p.tx (part 8 24 d) (part (big_number 2 (drop 34 d)) 36 d)
   address_first_sends is permits p message =
       let same : address_first_parts ≡ p = same_Some _ _ (sym (address_first_message is) ∙ message) in
-      subst (λ (p : Parts). send permits p ≡ of_send permits p.transaction_id (part 8 24 d) (part (big_number 2 (drop 34 d)) 36 d)) same refl
+      subst (λ (p : Parts). send permits p ≡ of_send permits p.tx (part 8 24 d) (part (big_number 2 (drop 34 d)) 36 d)) same refl
 
   pub data_first_sends : IsDataFirst d → (permits : Addr → Bool) (p : Parts) → message_in d ≡ Some p
-      → send permits p ≡ of_send permits p.transaction_id (part 8 (28 + big_number 2 (drop 22 d) + padding_count (big_number 2 (drop 22 d))) d) (part (big_number 2 (drop 22 d)) 24 d)
+      → send permits p ≡ of_send permits p.tx (part 8 (28 + big_number 2 (drop 22 d) + padding_count (big_number 2 (drop 22 d))) d) (part (big_number 2 (drop 22 d)) 24 d)
   data_first_sends is permits p message =
       let same : data_first_parts ≡ p = same_Some _ _ (sym (data_first_message is) ∙ message) in
-      subst (λ (p : Parts). send permits p ≡ of_send permits p.transaction_id (part 8 (28 + big_number 2 (drop 22 d) + padding_count (big_number 2 (drop 22 d))) d) (part (big_number 2 (drop 22 d)) 24 d)) same refl
+      subst (λ (p : Parts). send permits p ≡ of_send permits p.tx (part 8 (28 + big_number 2 (drop 22 d) + padding_count (big_number 2 (drop 22 d))) d) (part (big_number 2 (drop 22 d)) 24 d)) same refl

@@ -43,7 +43,7 @@ module _ (d : List ℕ) (fit : IsDatagram d) where
   abbrev pub parts_of : ℕ → ℕ → Parts
   parts_of n z = record {
     kind = 0x0016;
-    transaction_id = part 12 8 d;
+    tx = part 12 8 d;
     attributes = record { kind = 0x0012; value = part 8 24 d; padding = [] } ∷ record { kind = 0x0013; value = part n 36 d; padding = part z (36 + n) d } ∷ [];
   }
 
@@ -85,7 +85,7 @@ module _ (d : List ℕ) (fit : IsDatagram d) where
     pub are_parts : AreParts (parts_of n z)
     are_parts = record {
       kind = omega arith;
-      transaction_id = long 12 8 (omega (arith, size));
+      tx = long 12 8 (omega (arith, size));
       attributes = (
         record { kind = omega arith; value = omega (arith, long 8 24 (omega (arith, size))); padding = omega (arith, long 8 24 (omega (arith, size))) },
         (
@@ -105,7 +105,7 @@ module _ (d : List ℕ) (fit : IsDatagram d) where
   abbrev pub other_parts_of : ℕ → ℕ → Parts
   other_parts_of n z = record {
     kind = 0x0016;
-    transaction_id = part 12 8 d;
+    tx = part 12 8 d;
     attributes = record { kind = 0x0013; value = part n 24 d; padding = part z (24 + n) d } ∷ record { kind = 0x0012; value = part 8 (28 + n + z) d; padding = [] } ∷ [];
   }
 
@@ -147,7 +147,7 @@ module _ (d : List ℕ) (fit : IsDatagram d) where
     pub other_are_parts : AreParts (other_parts_of n y)
     other_are_parts = record {
       kind = omega arith;
-      transaction_id = long 12 8 (omega (arith, other_size));
+      tx = long 12 8 (omega (arith, other_size));
       attributes = (
         record {
           kind = omega arith;
@@ -161,19 +161,19 @@ module _ (d : List ℕ) (fit : IsDatagram d) where
 
 -- ---- and back
 
-module _ (d transaction_id v x pad : List ℕ) (id : length transaction_id ≡ 12) (eight : length v ≡ 8) (padding : length pad ≡ padding_count (length x)) (short : length d ≤ 65507) where
+module _ (d tx v x pad : List ℕ) (id : length tx ≡ 12) (eight : length v ≡ 8) (padding : length pad ≡ padding_count (length x)) (short : length d ≤ 65507) where
   abbrev pub address_attribute_of : PaddedAttribute
   address_attribute_of = record { kind = 0x0012; value = v; padding = [] }
 
   abbrev pub data_attribute_of : PaddedAttribute
   data_attribute_of = record { kind = 0x0013; value = x; padding = pad }
 
-  module _ (attributes : List PaddedAttribute) (is : d ≡ parts_bytes (record { kind = 0x0016; transaction_id = transaction_id; attributes = attributes })) where
+  module _ (attributes : List PaddedAttribute) (is : d ≡ parts_bytes (record { kind = 0x0016; tx = tx; attributes = attributes })) where
     abbrev after_the_header : List ℕ
     after_the_header = attributes_bytes attributes
 
     size_is : length d ≡ 20 + length after_the_header
-    size_is = ap length is ∙ omega (arith, length-append transaction_id after_the_header, id)
+    size_is = ap length is ∙ omega (arith, length-append tx after_the_header, id)
 
     header_back : 16 ≤ length after_the_header → IsSendHeader d
     header_back le = record {
@@ -184,7 +184,7 @@ module _ (d transaction_id v x pad : List ℕ) (id : length transaction_id ≡ 1
     }
 
     from_attributes : drop 20 d ≡ after_the_header
-    from_attributes = ap (drop 20) is ∙ drop_at transaction_id after_the_header 12 id
+    from_attributes = ap (drop 20) is ∙ drop_at tx after_the_header 12 id
 
   -- what is after the first attribute, and the sizes
   abbrev data_bytes : List ℕ
@@ -199,7 +199,7 @@ module _ (d transaction_id v x pad : List ℕ) (id : length transaction_id ≡ 1
   address_long : length address_bytes ≡ 12
   address_long = omega (arith, length-append (v ++ []) [], length-append v [], eight)
 
-  pub address_first_back : d ≡ parts_bytes (record { kind = 0x0016; transaction_id = transaction_id; attributes = address_attribute_of ∷ data_attribute_of ∷ [] }) → IsAddressFirst d
+  pub address_first_back : d ≡ parts_bytes (record { kind = 0x0016; tx = tx; attributes = address_attribute_of ∷ data_attribute_of ∷ [] }) → IsAddressFirst d
   address_first_back is =
       let attributes : List PaddedAttribute = address_attribute_of ∷ data_attribute_of ∷ [] in
       let all : List ℕ = attributes_bytes attributes in
@@ -219,7 +219,7 @@ module _ (d transaction_id v x pad : List ℕ) (id : length transaction_id ≡ 1
       small : (n : ℕ) → n < 65536 → big_number 2 (big_bytes 2 n) ≡ n
       small n lt = omega arith
 
-  pub data_first_back : d ≡ parts_bytes (record { kind = 0x0016; transaction_id = transaction_id; attributes = data_attribute_of ∷ address_attribute_of ∷ [] }) → IsDataFirst d
+  pub data_first_back : d ≡ parts_bytes (record { kind = 0x0016; tx = tx; attributes = data_attribute_of ∷ address_attribute_of ∷ [] }) → IsDataFirst d
   data_first_back is =
       let attributes : List PaddedAttribute = data_attribute_of ∷ address_attribute_of ∷ [] in
       let all : List ℕ = attributes_bytes attributes in

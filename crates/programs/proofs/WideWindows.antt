@@ -29,26 +29,26 @@ use Rattle.programs.proofs.PeerWindows.{then_put, padding_is_short}
 use Rattle.programs.proofs.XorBytes.{xor_each, xor_each-append, length-xor_each, big_bytes_xor}
 
 abbrev pub indication_6 : List ℕ → ℕ → List ℕ → List ℕ → Parts
-indication_6 ip port transaction_id d = with_attribute (with_attribute (empty_message data_indication transaction_id) XOR_PEER_ADDRESS (address_value (V6 ip port) transaction_id)) DATA d
+indication_6 ip port tx d = with_attribute (with_attribute (empty_message data_indication tx) XOR_PEER_ADDRESS (address_value (V6 ip port) tx)) DATA d
 
 -- the bytes after the header, before the data
 abbrev pub value_6 : List ℕ → ℕ → List ℕ → List ℕ
-value_6 ip port transaction_id = 0 ∷ 2 ∷ big_bytes 2 (bit_xor port cookie_half) ++ xor_bytes 16 ip (ipv6_mask transaction_id)
+value_6 ip port tx = 0 ∷ 2 ∷ big_bytes 2 (bit_xor port cookie_half) ++ xor_bytes 16 ip (ipv6_mask tx)
 
 abbrev pub after_header_6 : List ℕ → ℕ → List ℕ → ℕ → List ℕ
-after_header_6 ip port transaction_id n = 0 ∷ 0x12 ∷ 0 ∷ 0x14 ∷ value_6 ip port transaction_id ++ 0 ∷ 0x13 ∷ big_bytes 2 n
+after_header_6 ip port tx n = 0 ∷ 0x12 ∷ 0 ∷ 0x14 ∷ value_6 ip port tx ++ 0 ∷ 0x13 ∷ big_bytes 2 n
 
-pub attributes_are_6 : (ip d transaction_id : List ℕ) (port : ℕ) → attributes_bytes (indication_6 ip port transaction_id d).attributes ≡ after_header_6 ip port transaction_id (length d) ++ (d ++ replicate (padding_count (length d)) 0)
+pub attributes_are_6 : (ip d tx : List ℕ) (port : ℕ) → attributes_bytes (indication_6 ip port tx d).attributes ≡ after_header_6 ip port tx (length d) ++ (d ++ replicate (padding_count (length d)) 0)
 unfolding address_value xor_bytes
-attributes_are_6 ip d transaction_id port = ap (λ (l : List ℕ). after_header_6 ip port transaction_id (length d) ++ l) (append-nil (d ++ replicate (padding_count (length d)) 0))
+attributes_are_6 ip d tx port = ap (λ (l : List ℕ). after_header_6 ip port tx (length d) ++ l) (append-nil (d ++ replicate (padding_count (length d)) 0))
 
-pub length-after_header_6 : (ip transaction_id : List ℕ) (port n : ℕ) → length (after_header_6 ip port transaction_id n) ≡ 28
+pub length-after_header_6 : (ip tx : List ℕ) (port n : ℕ) → length (after_header_6 ip port tx n) ≡ 28
 unfolding xor_bytes
-length-after_header_6 ip transaction_id port n = refl
+length-after_header_6 ip tx port n = refl
 
-length-value_6 : (ip transaction_id : List ℕ) (port : ℕ) → length (value_6 ip port transaction_id) ≡ 20
+length-value_6 : (ip tx : List ℕ) (port : ℕ) → length (value_6 ip port tx) ≡ 20
 unfolding xor_bytes
-length-value_6 ip transaction_id port = refl
+length-value_6 ip tx port = refl
 
 -- ---- the value of the address, byte by byte
 
@@ -59,11 +59,11 @@ cookie_bytes = record {
       (All-cons (λ (b : ℕ). b < 256) 0xa4 (0x42 ∷ []) (omega arith) (All-cons (λ (b : ℕ). b < 256) 0x42 [] (omega arith) (All-nil (λ (b : ℕ). b < 256)))));
 }
 
-ip_value : (ip transaction_id : List ℕ) → AreBytes 16 ip → AreBytes 12 transaction_id → xor_bytes 16 ip (ipv6_mask transaction_id) ≡ xor_each ip (big_bytes 4 magic_cookie ++ transaction_id)
+ip_value : (ip tx : List ℕ) → AreBytes 16 ip → AreBytes 12 tx → xor_bytes 16 ip (ipv6_mask tx) ≡ xor_each ip (big_bytes 4 magic_cookie ++ tx)
 unfolding xor_bytes ipv6_mask
-ip_value ip transaction_id are id =
-    big_bytes_xor 16 ip (big_bytes 4 magic_cookie ++ transaction_id) are
-    (record { count = length-append (big_bytes 4 magic_cookie) transaction_id ∙ omega (arith, id.count); fit = All-append (λ (b : ℕ). b < 256) (big_bytes 4 magic_cookie) transaction_id cookie_bytes.fit id.fit })
+ip_value ip tx are id =
+    big_bytes_xor 16 ip (big_bytes 4 magic_cookie ++ tx) are
+    (record { count = length-append (big_bytes 4 magic_cookie) tx ∙ omega (arith, id.count); fit = All-append (λ (b : ℕ). b < 256) (big_bytes 4 magic_cookie) tx cookie_bytes.fit id.fit })
 
 half_bytes : AreBytes 2 (0x21 ∷ 0x12 ∷ [])
 half_bytes = record { count = refl; fit = All-cons (λ (b : ℕ). b < 256) 0x21 (0x12 ∷ []) (omega arith) (All-cons (λ (b : ℕ). b < 256) 0x12 [] (omega arith) (All-nil (λ (b : ℕ). b < 256))) }
@@ -98,10 +98,10 @@ wide_record_bytes ip port fits = record {
       (All-cons (λ (b : ℕ). b < 256) 2 (big_bytes 2 port ++ ip) (omega arith) (All-append (λ (b : ℕ). b < 256) (big_bytes 2 port) ip (two_bytes port).fit (all_below ip fits.bytes)));
 }
 
-value_is : (ip transaction_id : List ℕ) (port : ℕ) → HasWidth 16 ip port → AreBytes 12 transaction_id → xor_each (wide_record (V6 ip port)) (front_mask ++ transaction_id) ≡ value_6 ip port transaction_id
-value_is ip transaction_id port fits id =
+value_is : (ip tx : List ℕ) (port : ℕ) → HasWidth 16 ip port → AreBytes 12 tx → xor_each (wide_record (V6 ip port)) (front_mask ++ tx) ≡ value_6 ip port tx
+value_is ip tx port fits id =
     let are : AreBytes 16 ip = record { count = fits.long; fit = all_below ip fits.bytes } in
-    ap₂ (λ (a b : List ℕ). 0 ∷ 2 ∷ a ++ b) (port_value port fits.small) (sym (ip_value ip transaction_id are id))
+    ap₂ (λ (a b : List ℕ). 0 ∷ 2 ∷ a ++ b) (port_value port fits.small) (sym (ip_value ip tx are id))
 
 -- the record in three parts
 record_parts : (l : List ℕ) → length l ≡ 20 → take 8 l ++ part 8 8 l ++ part 4 16 l ≡ l
@@ -114,20 +114,20 @@ length-wide_record : (ip : List ℕ) (port : ℕ) → length ip ≡ 16 → lengt
 length-wide_record ip port long = omega (arith, long)
 
 -- the parts of a header as they are stored, one in front of the other
-pub record AreWideHeader (ip transaction_id : List ℕ) (port n p : ℕ) (b1 b2 b3 b4 b5 b6 b7 b8 b9 b10 b11 : List ℕ) : Type 0 where
+pub record AreWideHeader (ip tx : List ℕ) (port n p : ℕ) (b1 b2 b3 b4 b5 b6 b7 b8 b9 b10 b11 : List ℕ) : Type 0 where
   pub kind : b1 ≡ 0 ∷ 0x17 ∷ []
   pub rest : b2 ≡ big_bytes 2 (28 + p)
   pub cookie : b3 ≡ big_bytes 4 magic_cookie
-  pub id_head : b4 ≡ take 8 transaction_id
-  pub id_tail : b5 ≡ drop 8 transaction_id
+  pub id_head : b4 ≡ take 8 tx
+  pub id_tail : b5 ≡ drop 8 tx
   pub address : b6 ≡ 0 ∷ 0x12 ∷ 0 ∷ 0x14 ∷ []
   pub head : b7 ≡ xor_each (take 8 (wide_record (V6 ip port))) front_mask
-  pub middle : b8 ≡ xor_each (part 8 8 (wide_record (V6 ip port))) (take 8 transaction_id)
-  pub tail : b9 ≡ xor_each (part 4 16 (wide_record (V6 ip port))) (drop 8 transaction_id)
+  pub middle : b8 ≡ xor_each (part 8 8 (wide_record (V6 ip port))) (take 8 tx)
+  pub tail : b9 ≡ xor_each (part 4 16 (wide_record (V6 ip port))) (drop 8 tx)
   pub data_kind : b10 ≡ 0 ∷ 0x13 ∷ []
   pub size : b11 ≡ big_bytes 2 n
 
-module _ (ip d transaction_id : List ℕ) (port p t : ℕ) (b1 b2 b3 b4 b5 b6 b7 b8 b9 b10 b11 : List ℕ) (fits : HasWidth 16 ip port) (id : AreBytes 12 transaction_id) (are : AreWideHeader ip transaction_id port (length d) p b1 b2 b3 b4 b5 b6 b7 b8 b9 b10 b11) where
+module _ (ip d tx : List ℕ) (port p t : ℕ) (b1 b2 b3 b4 b5 b6 b7 b8 b9 b10 b11 : List ℕ) (fits : HasWidth 16 ip port) (id : AreBytes 12 tx) (are : AreWideHeader ip tx port (length d) p b1 b2 b3 b4 b5 b6 b7 b8 b9 b10 b11) where
   abbrev wide : List ℕ
   wide = wide_record (V6 ip port)
 
@@ -143,23 +143,23 @@ module _ (ip d transaction_id : List ℕ) (port p t : ℕ) (b1 b2 b3 b4 b5 b6 b7
   tail_long : length (part 4 16 wide) ≡ 4
   tail_long = omega (arith, length-take 4 (drop 16 wide), length-drop 16 wide, wide_long)
 
-  id_head_long : length (take 8 transaction_id) ≡ 8
-  id_head_long = omega (arith, length-take 8 transaction_id, id.count)
+  id_head_long : length (take 8 tx) ≡ 8
+  id_head_long = omega (arith, length-take 8 tx, id.count)
 
-  id_tail_long : length (drop 8 transaction_id) ≡ 4
-  id_tail_long = omega (arith, length-drop 8 transaction_id, id.count)
+  id_tail_long : length (drop 8 tx) ≡ 4
+  id_tail_long = omega (arith, length-drop 8 tx, id.count)
 
   -- the value of the address in its three parts
-  value_parts : b7 ++ b8 ++ b9 ≡ value_6 ip port transaction_id
+  value_parts : b7 ++ b8 ++ b9 ≡ value_6 ip port tx
   value_parts =
       ap₂ (λ (a b : List ℕ). a ++ b) (ap₂ (λ (a b : List ℕ). a ++ b) are.head are.middle) are.tail
-      ∙ ap (λ (l : List ℕ). l ++ xor_each (part 4 16 wide) (drop 8 transaction_id)) (sym (xor_each-append (take 8 wide) (part 8 8 wide) front_mask (take 8 transaction_id) head_long))
-      ∙ sym (xor_each-append (take 8 wide ++ part 8 8 wide) (part 4 16 wide) (front_mask ++ take 8 transaction_id) (drop 8 transaction_id) (omega (arith, length-append (take 8 wide) (part 8 8 wide), length-append front_mask (take 8 transaction_id), head_long, middle_long, id_head_long)))
-      ∙ ap₂ xor_each (record_parts wide wide_long) (append_assoc front_mask (take 8 transaction_id) (drop 8 transaction_id) ∙ ap (λ (l : List ℕ). front_mask ++ l) (take-append-drop 8 transaction_id))
-      ∙ value_is ip transaction_id port fits id
+      ∙ ap (λ (l : List ℕ). l ++ xor_each (part 4 16 wide) (drop 8 tx)) (sym (xor_each-append (take 8 wide) (part 8 8 wide) front_mask (take 8 tx) head_long))
+      ∙ sym (xor_each-append (take 8 wide ++ part 8 8 wide) (part 4 16 wide) (front_mask ++ take 8 tx) (drop 8 tx) (omega (arith, length-append (take 8 wide) (part 8 8 wide), length-append front_mask (take 8 tx), head_long, middle_long, id_head_long)))
+      ∙ ap₂ xor_each (record_parts wide wide_long) (append_assoc front_mask (take 8 tx) (drop 8 tx) ∙ ap (λ (l : List ℕ). front_mask ++ l) (take-append-drop 8 tx))
+      ∙ value_is ip tx port fits id
 
-  id_parts : b4 ++ b5 ≡ transaction_id
-  id_parts = ap₂ (λ (a b : List ℕ). a ++ b) are.id_head are.id_tail ∙ take-append-drop 8 transaction_id
+  id_parts : b4 ++ b5 ≡ tx
+  id_parts = ap₂ (λ (a b : List ℕ). a ++ b) are.id_head are.id_tail ∙ take-append-drop 8 tx
 
   l1 : length b1 ≡ 2
   l1 = ap length are.kind
@@ -183,10 +183,10 @@ module _ (ip d transaction_id : List ℕ) (port p t : ℕ) (b1 b2 b3 b4 b5 b6 b7
   l7 = ap length are.head ∙ length-xor_each (take 8 wide) front_mask head_long ∙ head_long
 
   l8 : length b8 ≡ 8
-  l8 = ap length are.middle ∙ length-xor_each (part 8 8 wide) (take 8 transaction_id) (middle_long ∙ sym id_head_long) ∙ middle_long
+  l8 = ap length are.middle ∙ length-xor_each (part 8 8 wide) (take 8 tx) (middle_long ∙ sym id_head_long) ∙ middle_long
 
   l9 : length b9 ≡ 4
-  l9 = ap length are.tail ∙ length-xor_each (part 4 16 wide) (drop 8 transaction_id) (tail_long ∙ sym id_tail_long) ∙ tail_long
+  l9 = ap length are.tail ∙ length-xor_each (part 4 16 wide) (drop 8 tx) (tail_long ∙ sym id_tail_long) ∙ tail_long
 
   l10 : length b10 ≡ 2
   l10 = ap length are.data_kind
@@ -230,27 +230,27 @@ module _ (ip d transaction_id : List ℕ) (port p t : ℕ) (b1 b2 b3 b4 b5 b6 b7
       ∙ ap (λ (l : List ℕ). y ++ l) (sym (append_assoc (b6 ++ (b7 ++ b8 ++ b9)) b10 b11))
       ∙ ap (λ (l : List ℕ). l ++ (b6 ++ (b7 ++ b8 ++ b9) ++ b10 ++ b11)) (append_assoc x b4 b5)
 
-  after_header_is : b6 ++ (b7 ++ b8 ++ b9) ++ b10 ++ b11 ≡ after_header_6 ip port transaction_id (length d)
+  after_header_is : b6 ++ (b7 ++ b8 ++ b9) ++ b10 ++ b11 ≡ after_header_6 ip port tx (length d)
   unfolding xor_bytes
   after_header_is = λ i. are.address i ++ value_parts i ++ are.data_kind i ++ are.size i
 
   pub indication_window_6 : p ≡ length d + padding_count (length d) → t ≡ 48 + p
       → part t 16 (overlay 62 b11 (overlay 60 b10 (overlay 56 b9 (overlay 48 b8 (overlay 40 b7 (overlay 36 b6 (overlay 32 b5 (overlay 24 b4 (overlay 20 b3 (overlay 18 b2 (overlay 16 b1 (datagram_area d))))))))))))
-      ≡ parts_bytes (indication_6 ip port transaction_id d)
+      ≡ parts_bytes (indication_6 ip port tx d)
   indication_window_6 is_p is_t =
       let front : List ℕ = b1 ++ b2 ++ b3 in
-      let after : List ℕ = after_header_6 ip port transaction_id (length d) in
+      let after : List ℕ = after_header_6 ip port tx (length d) in
       let padding : List ℕ = d ++ replicate (padding_count (length d)) 0 in
-      let header_is : all ≡ (front ++ transaction_id) ++ after = grouped ∙ ap₂ (λ (a b : List ℕ). (front ++ a) ++ b) id_parts after_header_is in
+      let header_is : all ≡ (front ++ tx) ++ after = grouped ∙ ap₂ (λ (a b : List ℕ). (front ++ a) ++ b) id_parts after_header_is in
       let lf : length front ≡ 8 = omega (arith, length-append (b1 ++ b2) b3, length-append b1 b2, l1, l2, l3) in
-      let la : length ((front ++ transaction_id) ++ after) ≡ 48 = omega (arith, length-append (front ++ transaction_id) after, length-append front transaction_id, lf, id.count, length-after_header_6 ip transaction_id port (length d)) in
-      let attributes : attributes_bytes (indication_6 ip port transaction_id d).attributes ≡ after ++ padding = attributes_are_6 ip d transaction_id port in
-      let count : length (attributes_bytes (indication_6 ip port transaction_id d).attributes) ≡ 28 + p =
-      ap length attributes ∙ length-append after padding ∙ omega (arith, length-after_header_6 ip transaction_id port (length d), length-append d (replicate (padding_count (length d)) 0), length-replicate {A = ℕ} (padding_count (length d)) 0, is_p) in
-      ap (part t 16) (puts (datagram_area d) ∙ ap (λ (l : List ℕ). overlay 16 l (datagram_area d)) header_is) ∙ part_of_header 48 t p 16 ((front ++ transaction_id) ++ after) d la refl is_t
-      ∙ ap (λ (l : List ℕ). ((front ++ transaction_id) ++ after) ++ l) (datagram_and_zeros p (padding_count (length d)) d is_p (padding_is_short (length d)))
-      ∙ append_assoc (front ++ transaction_id) after padding
-      ∙ ap₂ (λ (a b : List ℕ). (a ++ transaction_id) ++ b) (ap₂ (λ (a b : List ℕ). a ++ b) (ap₂ (λ (a b : List ℕ). a ++ b) are.kind (are.rest ∙ ap (big_bytes 2) (sym count))) are.cookie) (sym attributes)
+      let la : length ((front ++ tx) ++ after) ≡ 48 = omega (arith, length-append (front ++ tx) after, length-append front tx, lf, id.count, length-after_header_6 ip tx port (length d)) in
+      let attributes : attributes_bytes (indication_6 ip port tx d).attributes ≡ after ++ padding = attributes_are_6 ip d tx port in
+      let count : length (attributes_bytes (indication_6 ip port tx d).attributes) ≡ 28 + p =
+      ap length attributes ∙ length-append after padding ∙ omega (arith, length-after_header_6 ip tx port (length d), length-append d (replicate (padding_count (length d)) 0), length-replicate {A = ℕ} (padding_count (length d)) 0, is_p) in
+      ap (part t 16) (puts (datagram_area d) ∙ ap (λ (l : List ℕ). overlay 16 l (datagram_area d)) header_is) ∙ part_of_header 48 t p 16 ((front ++ tx) ++ after) d la refl is_t
+      ∙ ap (λ (l : List ℕ). ((front ++ tx) ++ after) ++ l) (datagram_and_zeros p (padding_count (length d)) d is_p (padding_is_short (length d)))
+      ∙ append_assoc (front ++ tx) after padding
+      ∙ ap₂ (λ (a b : List ℕ). (a ++ tx) ++ b) (ap₂ (λ (a b : List ℕ). a ++ b) (ap₂ (λ (a b : List ℕ). a ++ b) are.kind (are.rest ∙ ap (big_bytes 2) (sym count))) are.cookie) (sym attributes)
 
 -- the length of the attributes
 pub rest_is_6 : (p l u : ℕ) (bytes : List ℕ) → p ≤ 65507 → l ≡ alu Add W64 p 28 → u ≡ unary (Swap ToBig swap.Half) l → bytes ≡ little_bytes 2 u → bytes ≡ big_bytes 2 (28 + p)

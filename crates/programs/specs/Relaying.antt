@@ -18,32 +18,32 @@ use Rattle.programs.specs.Runs.{run_for, datagram_in, sent_by}
 use Rattle.programs.specs.declared.verdict.TheConstants.{PASSES}
 
 -- A start that a relay makes: rows of its tables, a source, a transaction id, and a datagram.
-pub record IsRelayStart (address : Addr) (transaction_id : List ℕ) (rows : Rows) (datagram : List ℕ) : Type 0 where
+pub record IsRelayStart (address : Addr) (tx : List ℕ) (rows : Rows) (datagram : List ℕ) : Type 0 where
   pub well_formed : AreWellFormed rows
   pub is_address : IsAddress address
-  pub id_bytes : AreBytes 12 transaction_id
+  pub id_bytes : AreBytes 12 tx
   pub is_datagram : IsDatagram datagram
 
 -- a program relays a datagram by itself, with this result: its run exits, doesn't pass it on, and sends just that
-pub record Relays (code : List Insn) (transaction_id : List ℕ) (from : Source) (rows : Rows) (datagram : List ℕ) (sends : Option Sending) : Type 0 where
+pub record Relays (code : List Insn) (tx : List ℕ) (from : Source) (rows : Rows) (datagram : List ℕ) (sends : Option Sending) : Type 0 where
   pub verdict : ℕ
-  pub exits : (run_for code transaction_id from rows datagram).ending ≡ Exited verdict
+  pub exits : (run_for code tx from rows datagram).ending ≡ Exited verdict
   pub alone : verdict ≢ PASSES
-  pub sent : sent_by from rows verdict (run_for code transaction_id from rows datagram).state ≡ sends
+  pub sent : sent_by from rows verdict (run_for code tx from rows datagram).state ≡ sends
 
 -- a program passes a datagram on as it came
-pub record PassesOn (code : List Insn) (transaction_id : List ℕ) (from : Source) (rows : Rows) (datagram : List ℕ) : Type 0 where
-  pub exits : (run_for code transaction_id from rows datagram).ending ≡ Exited PASSES
-  pub unchanged : datagram_in (length datagram) (run_for code transaction_id from rows datagram).state ≡ datagram
+pub record PassesOn (code : List Insn) (tx : List ℕ) (from : Source) (rows : Rows) (datagram : List ℕ) : Type 0 where
+  pub exits : (run_for code tx from rows datagram).ending ≡ Exited PASSES
+  pub unchanged : datagram_in (length datagram) (run_for code tx from rows datagram).state ≡ datagram
 
 -- The program of the client's side: it relays ChannelData and plain Send indications, passes on what else begins as STUN
 -- does, and sends nothing for any other datagram.
-pub record ServesClient (code : List Insn) (transaction_id : List ℕ) (client : Addr) (rows : Rows) (datagram : List ℕ) : Type 0 where
-  pub channel_data : begins_as_channel_data datagram ≡ true → Relays code transaction_id (Client client) rows datagram (channel_data_from client rows datagram)
-  pub send : (p : Parts) → message_in datagram ≡ Some p → is_plain_send p ≡ true → Relays code transaction_id (Client client) rows datagram (send_from client rows p)
-  pub stun : begins_as_stun datagram ≡ true → ((p : Parts) → message_in datagram ≡ Some p → is_plain_send p ≡ false) → PassesOn code transaction_id (Client client) rows datagram
-  pub other : begins_as_channel_data datagram ≡ false → begins_as_stun datagram ≡ false → Relays code transaction_id (Client client) rows datagram None
+pub record ServesClient (code : List Insn) (tx : List ℕ) (client : Addr) (rows : Rows) (datagram : List ℕ) : Type 0 where
+  pub channel_data : begins_as_channel_data datagram ≡ true → Relays code tx (Client client) rows datagram (channel_data_from client rows datagram)
+  pub send : (p : Parts) → message_in datagram ≡ Some p → is_plain_send p ≡ true → Relays code tx (Client client) rows datagram (send_from client rows p)
+  pub stun : begins_as_stun datagram ≡ true → ((p : Parts) → message_in datagram ≡ Some p → is_plain_send p ≡ false) → PassesOn code tx (Client client) rows datagram
+  pub other : begins_as_channel_data datagram ≡ false → begins_as_stun datagram ≡ false → Relays code tx (Client client) rows datagram None
 
 -- The program of the peers' side relays every datagram.
 abbrev pub ServesPeer : List Insn → List ℕ → ℕ → Addr → Rows → List ℕ → Type 0
-ServesPeer code transaction_id slot peer rows datagram = Relays code transaction_id (Peer slot peer) rows datagram (peer_data_to slot peer transaction_id rows datagram)
+ServesPeer code tx slot peer rows datagram = Relays code tx (Peer slot peer) rows datagram (peer_data_to slot peer tx rows datagram)

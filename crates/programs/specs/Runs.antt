@@ -24,8 +24,8 @@ use Rattle.rules.specs.Rules.{client_slot, client_at, to_peer}
 -- ---- the start
 
 abbrev pub context_for : List ℕ → Source → Context
-context_for transaction_id (Client client) = record { side = side.Client; source = client; transaction_id = transaction_id }
-context_for transaction_id (Peer slot peer) = record { side = side.Peer; source = peer; transaction_id = transaction_id }
+context_for tx (Client client) = record { side = side.Client; source = client; tx = tx }
+context_for tx (Peer slot peer) = record { side = side.Peer; source = peer; tx = tx }
 
 -- the slot in which helpers look up: that of the client's allocation, or the one that a peer's datagram came to
 abbrev pub slot_for : Source → Rows → Option ℕ
@@ -34,10 +34,10 @@ slot_for (Peer slot peer) rows = Some slot
 
 -- with look-ups in the live rows
 abbrev pub environment_for : List ℕ → Source → Rows → Environment
-environment_for transaction_id from rows = environment_around (context_of (context_for transaction_id from)) (look_up_answer (slot_for from rows) rows)
+environment_for tx from rows = environment_around (context_of (context_for tx from)) (look_up_answer (slot_for from rows) rows)
 
 abbrev pub run_for : List Insn → List ℕ → Source → Rows → List ℕ → Run
-run_for code transaction_id from rows bytes = run_over (environment_for transaction_id from rows) code bytes
+run_for code tx from rows bytes = run_over (environment_for tx from rows) code bytes
 
 -- ---- the end
 

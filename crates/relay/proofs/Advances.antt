@@ -36,7 +36,7 @@ module _ (was : RelayContents) (confinement : Option Confinement) (given : Meta)
 
   -- the reply at a moment
   abbrev pub reply_at : SystemReply
-  reply_at = if_served (by_programs old.programs) (with_nonce old.config old.config.nonce.bytes) moment given.transaction_id given.from old.rows (datagram_at old n)
+  reply_at = if_served (by_programs old.programs) (with_nonce old.config old.config.nonce.bytes) moment given.tx given.from old.rows (datagram_at old n)
 
   -- the relay at the moment
   abbrev pub at_moment : RelayContents
@@ -53,7 +53,7 @@ module _ (was : RelayContents) (confinement : Option Confinement) (given : Meta)
   -- a reply of a system makes a step
   pub steps : (new : RelayContents) → moment ≡ moment_of old.greatest given.now → new.rows ≡ reply_at.rows → new.greatest ≡ moment → new.config ≡ was.config → new.programs ≡ was.programs → HasStepped was new (outcome_of old given n)
   steps new is rows greatest config programs =
-      let P : ℕ → Type 0 = λ m. HasStepped was new (outcome_at m (state_of old) (if_served (by_programs old.programs) (with_nonce old.config old.config.nonce.bytes) m given.transaction_id given.from old.rows (datagram_at old n))) in
+      let P : ℕ → Type 0 = λ m. HasStepped was new (outcome_at m (state_of old) (if_served (by_programs old.programs) (with_nonce old.config old.config.nonce.bytes) m given.tx given.from old.rows (datagram_at old n))) in
       subst P is (record {
         state = λ i. record { rows = rows i; greatest = greatest i; nonce = (config i).nonce.bytes };
         config = config;
@@ -66,7 +66,7 @@ module _ (was : RelayContents) (confinement : Option Confinement) (given : Meta)
       (ap (λ (r : RelayContents). r.rows) kept ∙ sym rows) (ap (λ (r : RelayContents). r.greatest) kept) (ap (λ (r : RelayContents). r.config) kept) (ap (λ (r : RelayContents). r.programs) kept)
 
   pub answers : moment ≡ moment_of old.greatest given.now → reply_at.answer ≡ (outcome_of old given n).answer
-  answers is = ap (λ (m : ℕ). (if_served (by_programs old.programs) (with_nonce old.config old.config.nonce.bytes) m given.transaction_id given.from old.rows (datagram_at old n)).answer) is
+  answers is = ap (λ (m : ℕ). (if_served (by_programs old.programs) (with_nonce old.config old.config.nonce.bytes) m given.tx given.from old.rows (datagram_at old n)).answer) is
 
   -- what is done at a moment
   abbrev pub done_at : Disposition

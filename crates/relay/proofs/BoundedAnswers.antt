@@ -70,9 +70,9 @@ module _ (most : ℕ) where
 
 -- ---- one datagram
 
-module _ (programs : Programs) (config : Config) (now : ℕ) (transaction_id : List ℕ) (rows : Rows) where
+module _ (programs : Programs) (config : Config) (now : ℕ) (tx : List ℕ) (rows : Rows) where
   abbrev Bounds : Source → List ℕ → Sending → Type 0
-  Bounds from bytes sending = IsRelayed (length bytes) sending ⊎ RespondsAfterRun programs config now transaction_id from rows bytes sending
+  Bounds from bytes sending = IsRelayed (length bytes) sending ⊎ RespondsAfterRun programs config now tx from rows bytes sending
 
   abbrev IsBounded : Source → List ℕ → SystemReply → Type 0
   IsBounded from bytes reply = IfSome reply.answer (Bounds from bytes)
@@ -84,7 +84,7 @@ module _ (programs : Programs) (config : Config) (now : ℕ) (transaction_id : L
   sends from sent = reply_of_relaying rows (let_through programs.confinement from (rows_at now rows) sent)
 
   abbrev run : Source → List ℕ → Run
-  run from bytes = run_for (program_for programs from) transaction_id from (rows_at now rows) bytes
+  run from bytes = run_for (program_for programs from) tx from (rows_at now rows) bytes
 
   sends_bounded : (from : Source) (bytes : List ℕ) (sent : Option Sending) → IfSome sent (IsRelayed (length bytes)) → IsBounded from bytes (sends from sent)
   sends_bounded from bytes sent short =
@@ -92,12 +92,12 @@ module _ (programs : Programs) (config : Config) (now : ℕ) (transaction_id : L
       (through_short (length bytes + (HEADROOM + TAILROOM)) programs.confinement from (rows_at now rows) sent short) (λ sending few. inl few)
 
   -- what is passed on is no longer than what came
-  length-passed : (client : Addr) (bytes : List ℕ) → length (passed_on programs now transaction_id client rows bytes) ≤ length bytes
+  length-passed : (client : Addr) (bytes : List ℕ) → length (passed_on programs now tx client rows bytes) ≤ length bytes
   length-passed client bytes = omega (arith, length-take (length bytes) (drop HEADROOM (run (Client client) bytes).state.memory.bytes))
 
   passed_bounded : (from : Source) (bytes : List ℕ) → IsBounded from bytes (of_passing passes (sends from) from (datagram_in (length bytes) (run from bytes).state))
   passed_bounded (Client client) bytes =
-      let passed : List ℕ = passed_on programs now transaction_id client rows bytes in
+      let passed : List ℕ = passed_on programs now tx client rows bytes in
       each_more (λ (sending : Sending). IsRelayed (length passed) sending ⊎ RespondsTo config now client rows passed sending) (Bounds (Client client) bytes)
       (from_client config now client rows passed).answer (answer_bounded config now client rows passed) (λ sending is. elim is [
         | inl few ↦ inl (omega (arith, few, length-passed client bytes))
@@ -108,19 +108,19 @@ module _ (programs : Programs) (config : Config) (now : ℕ) (transaction_id : L
   run_bounded : (from : Source) (bytes : List ℕ) → IsBounded from bytes (by_run programs.confinement config now from rows (length bytes) (run from bytes))
   run_bounded from bytes =
       let few : length (run from bytes).state.memory.bytes ≤ length bytes + (HEADROOM + TAILROOM) =
-      omega (arith, length-memory (environment_for transaction_id from (rows_at now rows)) (program_for programs from) bytes) in
+      omega (arith, length-memory (environment_for tx from (rows_at now rows)) (program_for programs from) bytes) in
       after_run (IsBounded from bytes) passes (sends from) from (rows_at now rows) (length bytes) (run from bytes) (passed_bounded from bytes)
       (λ verdict. sends_bounded from bytes _ (sent_short (length bytes + (HEADROOM + TAILROOM)) from (rows_at now rows) verdict (run from bytes).state few))
       (sends_bounded from bytes None tt)
 
-  datagram_bounded : (from : Source) (bytes : List ℕ) → IsBounded from bytes (by_programs programs config now transaction_id from rows bytes)
+  datagram_bounded : (from : Source) (bytes : List ℕ) → IsBounded from bytes (by_programs programs config now tx from rows bytes)
   datagram_bounded from bytes = of (is_there from rows) where
     of : (b : Bool) → IsBounded from bytes (if b then by_run programs.confinement config now from rows (length bytes) (run from bytes) else no_answer rows)
     of true = run_bounded from bytes
     of false = tt
 
   served_bounded : (from : Source) (bytes : List ℕ) (b : Bool)
-      → IsBounded from bytes (if b then by_programs programs config now transaction_id from rows bytes else no_answer rows)
+      → IsBounded from bytes (if b then by_programs programs config now tx from rows bytes else no_answer rows)
   served_bounded from bytes true = datagram_bounded from bytes
   served_bounded from bytes false = tt
 
@@ -129,7 +129,7 @@ module _ (programs : Programs) (config : Config) (now : ℕ) (transaction_id : L
 step_bounded : (programs : Programs) (config : Config) (s : SystemState) (e : Event)
     → IsBoundedFor programs config s e (system_step (by_programs programs) config s e).answer
 step_bounded programs config s (Datagram given bytes) =
-    served_bounded programs (with_nonce config s.nonce) (moment_of s.greatest given.now) given.transaction_id s.rows given.from bytes (is_served given.from)
+    served_bounded programs (with_nonce config s.nonce) (moment_of s.greatest given.now) given.tx s.rows given.from bytes (is_served given.from)
 step_bounded programs config s (Nonce text) = refl
 
 pub is_no_amplifier : (programs : Programs) (config : Config) (s : SystemState) → IsNoAmplifier programs config s

@@ -19,9 +19,9 @@ use Rattle.tables.specs.Rows.{Rows, rows_at}
 
 -- ---- one datagram
 
-module _ (programs : Programs) (config : Config) (now : ℕ) (transaction_id : List ℕ) (rows : Rows) where
+module _ (programs : Programs) (config : Config) (now : ℕ) (tx : List ℕ) (rows : Rows) where
   abbrev ChangesByRequest : Source → List ℕ → SystemReply → Type 0
-  ChangesByRequest from bytes reply = (reply.rows ≡ rows) ⊎ IsRequestFrom programs config now transaction_id from rows bytes
+  ChangesByRequest from bytes reply = (reply.rows ≡ rows) ⊎ IsRequestFrom programs config now tx from rows bytes
 
   abbrev passes : Addr → List ℕ → SystemReply
   passes client bytes = from_client config now client rows bytes
@@ -30,7 +30,7 @@ module _ (programs : Programs) (config : Config) (now : ℕ) (transaction_id : L
   sends from sent = reply_of_relaying rows (let_through programs.confinement from (rows_at now rows) sent)
 
   abbrev run : Source → List ℕ → Run
-  run from bytes = run_for (program_for programs from) transaction_id from (rows_at now rows) bytes
+  run from bytes = run_for (program_for programs from) tx from (rows_at now rows) bytes
 
   passed_changes : (from : Source) (bytes : List ℕ) → ChangesByRequest from bytes (of_passing passes (sends from) from (datagram_in (length bytes) (run from bytes).state))
   passed_changes (Client client) bytes = rules.requests_change_rows config now client rows (datagram_in (length bytes) (run (Client client) bytes).state)
@@ -41,14 +41,14 @@ module _ (programs : Programs) (config : Config) (now : ℕ) (transaction_id : L
       after_run (ChangesByRequest from bytes) passes (sends from) from (rows_at now rows) (length bytes) (run from bytes)
       (passed_changes from bytes) (λ verdict. inl refl) (inl refl)
 
-  pub datagram_changes : (from : Source) (bytes : List ℕ) → ChangesByRequest from bytes (by_programs programs config now transaction_id from rows bytes)
+  pub datagram_changes : (from : Source) (bytes : List ℕ) → ChangesByRequest from bytes (by_programs programs config now tx from rows bytes)
   datagram_changes from bytes = of (is_there from rows) where
     of : (b : Bool) → ChangesByRequest from bytes (if b then by_run programs.confinement config now from rows (length bytes) (run from bytes) else no_answer rows)
     of true = run_changes from bytes
     of false = inl refl
 
   served_changes : (from : Source) (bytes : List ℕ) (b : Bool)
-      → ChangesByRequest from bytes (if b then by_programs programs config now transaction_id from rows bytes else no_answer rows)
+      → ChangesByRequest from bytes (if b then by_programs programs config now tx from rows bytes else no_answer rows)
   served_changes from bytes true = datagram_changes from bytes
   served_changes from bytes false = inl refl
 
@@ -57,7 +57,7 @@ module _ (programs : Programs) (config : Config) (now : ℕ) (transaction_id : L
 module _ (programs : Programs) (config : Config) where
   pub step_changes : (s : SystemState) (e : Event) → ((system_step (by_programs programs) config s e).state.rows ≡ s.rows) ⊎ IsRequestEvent programs config s e
   step_changes s (Datagram given bytes) =
-      served_changes programs (with_nonce config s.nonce) (moment_of s.greatest given.now) given.transaction_id s.rows given.from bytes (is_served given.from)
+      served_changes programs (with_nonce config s.nonce) (moment_of s.greatest given.now) given.tx s.rows given.from bytes (is_served given.from)
   step_changes s (Nonce text) = inl refl
 
   pub events_change : (s : SystemState) (events : List Event)

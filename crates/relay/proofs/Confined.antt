@@ -189,7 +189,7 @@ module _ (aliases : List Alias) where
   given_more from live (Some sending) is = permitted_more aliases from live sending is
 
 module _ (programs : Programs) (confinement : Confinement) (confined : programs.confinement ≡ Some confinement) (config : Config) (now : ℕ)
-    (transaction_id : List ℕ) (rows : Rows) where
+    (tx : List ℕ) (rows : Rows) where
   abbrev aliases : List Alias
   aliases = confinement.aliases.items
 
@@ -225,21 +225,21 @@ module _ (programs : Programs) (confinement : Confinement) (confined : programs.
       let P : Option Confinement → Type 0 = λ c. IsGood from (by_run c config now from rows size r) in
       subst P (sym confined) (ending_good from size r)
 
-  pub programs_permitted : (from : Source) (bytes : List ℕ) → IsGood from (by_programs programs config now transaction_id from rows bytes)
+  pub programs_permitted : (from : Source) (bytes : List ℕ) → IsGood from (by_programs programs config now tx from rows bytes)
   programs_permitted from bytes = of (is_there from rows) where
-    of : (b : Bool) → IsGood from (if b then by_run programs.confinement config now from rows (length bytes) (run_for (program_for programs from) transaction_id from live bytes) else no_answer rows)
-    of true = run_good from (length bytes) (run_for (program_for programs from) transaction_id from live bytes)
+    of : (b : Bool) → IsGood from (if b then by_run programs.confinement config now from rows (length bytes) (run_for (program_for programs from) tx from live bytes) else no_answer rows)
+    of true = run_good from (length bytes) (run_for (program_for programs from) tx from live bytes)
     of false = tt
 
   pub served_permitted : (from : Source) (bytes : List ℕ) → (b : Bool)
-      → IsGood from (if b then by_programs programs config now transaction_id from rows bytes else no_answer rows)
+      → IsGood from (if b then by_programs programs config now tx from rows bytes else no_answer rows)
   served_permitted from bytes true = programs_permitted from bytes
   served_permitted from bytes false = tt
 
 module _ (programs : Programs) (confinement : Confinement) (confined : programs.confinement ≡ Some confinement) (config : Config) where
   step_permitted : (s : SystemState) (e : Event) → IsPermittedFor confinement.aliases.items s e (system_step (by_programs programs) config s e).answer
   step_permitted s (Datagram given bytes) =
-      served_permitted programs confinement confined (with_nonce config s.nonce) (moment_of s.greatest given.now) given.transaction_id s.rows given.from bytes (is_served given.from)
+      served_permitted programs confinement confined (with_nonce config s.nonce) (moment_of s.greatest given.now) given.tx s.rows given.from bytes (is_served given.from)
   step_permitted s (Nonce text) = refl
 
   sends_permitted : (s : SystemState) → SendsWhatIsPermitted confinement.aliases.items (by_programs programs) config s

@@ -35,8 +35,8 @@ module _ (programs : Programs) (config : Config) (s : SystemState) (given : Meta
   permitted_now (Some c) is = is [] (Datagram given bytes)
 
   keeps_others : AreWellFormed s.rows → (served : Bool) → KeepsOthers given.from (rows_at moment s.rows)
-      (rows_at moment (if served then by_programs programs (with_nonce config s.nonce) moment given.transaction_id given.from s.rows bytes else no_answer s.rows).rows)
-  keeps_others formed true = (programs_keep_users_apart programs (with_nonce config s.nonce) moment given.transaction_id given.from bytes).others s.rows formed
+      (rows_at moment (if served then by_programs programs (with_nonce config s.nonce) moment given.tx given.from s.rows bytes else no_answer s.rows).rows)
+  keeps_others formed true = (programs_keep_users_apart programs (with_nonce config s.nonce) moment given.tx given.from bytes).others s.rows formed
   keeps_others formed false = keeps_all given.from (rows_at moment s.rows)
 
   pub harmless : AreWellFormed s.rows → IsHarmless programs config s given bytes (system_step (by_programs programs) config s (Datagram given bytes)).answer

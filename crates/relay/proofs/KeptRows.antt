@@ -122,11 +122,11 @@ port_small value fit =
     let low : big_number 2 (drop 2 value) < 2 ^ 16 = omega (arith, big_from-lt 0 2 (drop 2 value) (fit_at (drop 2 value) (All-drop (λ b. b < 256) 2 value fit))) in
     omega (arith, xor_lt 16 (big_number 2 (drop 2 value)) cookie_half low (omega arith))
 
-address_fits : (transaction_id value : List ℕ) (a : Addr) → AreFit value → address_in transaction_id value ≡ Some a → IsAddress a
-address_fits transaction_id value a fit = of (has_family 8 1 value) (has_family 20 2 value) where
-  of : (short long : Bool) → (if short then Some (V4 (xor_bytes 4 (drop 4 value) magic_cookie) (port_in value)) else if long then Some (V6 (xor_bytes 16 (drop 4 value) (ipv6_mask transaction_id)) (port_in value)) else None) ≡ Some a → IsAddress a
+address_fits : (tx value : List ℕ) (a : Addr) → AreFit value → address_in tx value ≡ Some a → IsAddress a
+address_fits tx value a fit = of (has_family 8 1 value) (has_family 20 2 value) where
+  of : (short long : Bool) → (if short then Some (V4 (xor_bytes 4 (drop 4 value) magic_cookie) (port_in value)) else if long then Some (V6 (xor_bytes 16 (drop 4 value) (ipv6_mask tx)) (port_in value)) else None) ≡ Some a → IsAddress a
   of true long e = subst IsAddress (same_Some _ a e) (masked_width 4 (drop 4 value) magic_cookie (port_in value) (port_small value fit))
-  of false true e = subst IsAddress (same_Some _ a e) (masked_width 16 (drop 4 value) (ipv6_mask transaction_id) (port_in value) (port_small value fit))
+  of false true e = subst IsAddress (same_Some _ a e) (masked_width 16 (drop 4 value) (ipv6_mask tx) (port_in value) (port_small value fit))
   of false false e = absurd (none-some a e)
 
 -- ---- decisions
@@ -160,7 +160,7 @@ module _ (client : Addr) (user : ℕ) (p : Parts) (rows : Rows) (are : AreWellFo
   keeps_allocate config ipv4 = beside (allocation_of client rows) where
     beside : (o : Option Allocation) → Keeps (allocate_beside config o client user p rows)
     beside None = after (acceptable config p) _ (λ given _.
-        change (tables.allocation_change client user p.transaction_id given.0 given.1 rows) (λ slot. Allocated given.0 slot given.1) (allocate-well_formed client user p.transaction_id given.0 given.1 rows are ipv4))
+        change (tables.allocation_change client user p.tx given.0 given.1 rows) (λ slot. Allocated given.0 slot given.1) (allocate-well_formed client user p.tx given.0 given.1 rows are ipv4))
     beside (Some a) = after (check (is_repeated a user p) _) _ (λ _ _. tt)
 
   keeps_refresh : Keeps (refresh_decision client user p rows)
@@ -181,7 +181,7 @@ module _ (client : Addr) (user : ℕ) (p : Parts) (rows : Rows) (are : AreWellFo
   keeps_bind fit =
       after (own_allocation client user rows) _ (λ a _.
       after (required_value (number_of_value 2) (first_value p CHANNEL_NUMBER)) _ (λ number _.
-      after (required_value (address_in p.transaction_id) (first_value p XOR_PEER_ADDRESS)) _ (λ peer found.
+      after (required_value (address_in p.tx) (first_value p XOR_PEER_ADDRESS)) _ (λ peer found.
       after (check (is_between FIRST_CHANNEL LAST_CHANNEL number) _) _ (λ u between.
       change (tables.bind_change a.slot number peer rows) (λ _. Done) (bind-well_formed a.slot number peer rows are (in_range number (passed _ _ u between)) (is_peer peer found))))))
     where
@@ -190,10 +190,10 @@ module _ (client : Addr) (user : ℕ) (p : Parts) (rows : Rows) (are : AreWellFo
           let both = and_parts (nat_le FIRST_CHANNEL number) (nat_le number LAST_CHANNEL) between in
           (leb-true _ _ both.0, leb-true _ _ both.1)
 
-      is_peer : (peer : Addr) → required_value (address_in p.transaction_id) (first_value p XOR_PEER_ADDRESS) ≡ Ok peer → IsAddress peer
+      is_peer : (peer : Addr) → required_value (address_in p.tx) (first_value p XOR_PEER_ADDRESS) ≡ Ok peer → IsAddress peer
       is_peer peer found =
-          let (value, there, is) = value_there (address_in p.transaction_id) (first_value p XOR_PEER_ADDRESS) peer found in
-          address_fits p.transaction_id value peer (fit value there) is
+          let (value, there, is) = value_there (address_in p.tx) (first_value p XOR_PEER_ADDRESS) peer found in
+          address_fits p.tx value peer (fit value there) is
 
   keeps_served : IsIpv4Address client → ((value : List ℕ) → first_value p XOR_PEER_ADDRESS ≡ Some value → AreFit value) → (r : TurnRequest) (config : Config) → Keeps (decision_for_user r config client user p rows)
   keeps_served ipv4 fit turn.Allocate config = keeps_allocate config ipv4
@@ -243,7 +243,7 @@ pub is_served-is : (from : Source) → IsAddress (address_of_source from) → is
 is_served-is (Client client) address e = of_ipv4 client address e
 is_served-is (Peer slot peer) address e = tt
 
-pub keeps : (config : Config) (now : ℕ) (transaction_id : List ℕ) (from : Source) (rows : Rows) (datagram : List ℕ)
-    → AreWellFormed rows → IsServed from → IsDatagram datagram → AreWellFormed (by_rules config now transaction_id from rows datagram).rows
-keeps config now transaction_id (Client client) rows datagram are ipv4 is = keeps_client config now client rows datagram are ipv4 is
-keeps config now transaction_id (Peer slot peer) rows datagram are ipv4 is = are
+pub keeps : (config : Config) (now : ℕ) (tx : List ℕ) (from : Source) (rows : Rows) (datagram : List ℕ)
+    → AreWellFormed rows → IsServed from → IsDatagram datagram → AreWellFormed (by_rules config now tx from rows datagram).rows
+keeps config now tx (Client client) rows datagram are ipv4 is = keeps_client config now client rows datagram are ipv4 is
+keeps config now tx (Peer slot peer) rows datagram are ipv4 is = are

@@ -89,7 +89,7 @@ content_short (b ∷ bytes) short = omega (arith, short, length-encode_with lowe
 pub line_short : (slots : ℕ) (e : Event) → slots < 2 ^ 64 → IsEvent slots e → length (line_of e) ≤ MAX_LINE
 line_short slots (Datagram given bytes) few (now, long, fit, from, short, are) =
     let content = source_text given.from ++ 0x20 ∷ bytes_text bytes in
-    let marked = encode_lower given.transaction_id ++ 0x20 ∷ content in
+    let marked = encode_lower given.tx ++ 0x20 ∷ content in
     omega (
       arith,
       long,
@@ -97,9 +97,9 @@ line_short slots (Datagram given bytes) few (now, long, fit, from, short, are) =
       number_short given.now now,
       source_short slots given.from few from,
       content_short bytes short,
-      length-encode_with lower_digits given.transaction_id,
+      length-encode_with lower_digits given.tx,
       length-append (source_text given.from) (0x20 ∷ bytes_text bytes),
-      length-append (encode_lower given.transaction_id) (0x20 ∷ content),
+      length-append (encode_lower given.tx) (0x20 ∷ content),
       length-append (decimal given.now) (0x20 ∷ marked),
       length-append (side_text given.from) (0x20 ∷ datagram_text given bytes),
     )

@@ -32,7 +32,7 @@ answers_for (Peer slot peer) rows are = refl
 
 -- the run over what is live there is that of the step
 pub ran_at : (old : RelayContents) (given : Meta) (n moment : ℕ) (o : Outcome) (frame : machine.Contents) (context : Context) (live : Option Held) (code : List Insn) → AreWellFormed old.rows
-    → context ≡ context_for given.transaction_id given.from → live ≡ held_for given.from (rows_at moment old.rows) → code ≡ program_for old.programs given.from
+    → context ≡ context_for given.tx given.from → live ≡ held_for given.from (rows_at moment old.rows) → code ≡ program_for old.programs given.from
     → HasRun (length (datagram_at old n)) o frame (run_over (environment_around (context_of context) (held_answer live)) code (datagram_at old n))
     → HasRun (length (datagram_at old n)) o frame (run_at (record old { greatest = moment }) given n)
 ran_at old given n moment o frame context live code formed context_is live_is code_is ran =

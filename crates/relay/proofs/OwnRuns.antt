@@ -47,9 +47,9 @@ module _ (client : Addr) (a b : Rows) (are_a : AreWellFormed a) (are_b : AreWell
     of None is = refl
     of (Some x) is = ap held_answer (held_alike client a b are_a are_b alike x is)
 
-  client_run : (code : List Insn) (transaction_id bytes : List ℕ) → run_for code transaction_id (Client client) a bytes ≡ run_for code transaction_id (Client client) b bytes
-  client_run code transaction_id bytes =
-      ap (λ (answers : ℕ → ℕ → AddressRecord → ℕ × AddressRecord). run_over (environment_around (context_of (context_for transaction_id (Client client))) answers) code bytes) own_answers
+  client_run : (code : List Insn) (tx bytes : List ℕ) → run_for code tx (Client client) a bytes ≡ run_for code tx (Client client) b bytes
+  client_run code tx bytes =
+      ap (λ (answers : ℕ → ℕ → AddressRecord → ℕ × AddressRecord). run_over (environment_around (context_of (context_for tx (Client client))) answers) code bytes) own_answers
 
   -- what is planned, over the client's allocation
   abbrev planned : Option Addr → Option (List ℕ) → Option Allocation → Option Sending
@@ -127,23 +127,23 @@ module _ (confinement : Option Confinement) (config : Config) (now : ℕ) (clien
   ending_alike size r (runs.Stuck reason slot) = nothing_alike
   ending_alike size r runs.Running = nothing_alike
 
-  client_alike : (code : List Insn) (transaction_id bytes : List ℕ)
-      → Alike (by_run confinement config now (Client client) a (length bytes) (run_for code transaction_id (Client client) (rows_at now a) bytes))
-      (by_run confinement config now (Client client) b (length bytes) (run_for code transaction_id (Client client) (rows_at now b) bytes))
-  client_alike code transaction_id bytes =
-      subst (λ (r : Run). Alike (by_run confinement config now (Client client) a (length bytes) (run_for code transaction_id (Client client) (rows_at now a) bytes))
+  client_alike : (code : List Insn) (tx bytes : List ℕ)
+      → Alike (by_run confinement config now (Client client) a (length bytes) (run_for code tx (Client client) (rows_at now a) bytes))
+      (by_run confinement config now (Client client) b (length bytes) (run_for code tx (Client client) (rows_at now b) bytes))
+  client_alike code tx bytes =
+      subst (λ (r : Run). Alike (by_run confinement config now (Client client) a (length bytes) (run_for code tx (Client client) (rows_at now a) bytes))
       (by_run confinement config now (Client client) b (length bytes) r))
-      (client_run client (rows_at now a) (rows_at now b) (rows_at-well_formed now a are_a) (rows_at-well_formed now b are_b) alike code transaction_id bytes)
-      (of (run_for code transaction_id (Client client) (rows_at now a) bytes)) where
+      (client_run client (rows_at now a) (rows_at now b) (rows_at-well_formed now a are_a) (rows_at-well_formed now b are_b) alike code tx bytes)
+      (of (run_for code tx (Client client) (rows_at now a) bytes)) where
         of : (r : Run) → Alike (by_run confinement config now (Client client) a (length bytes) r) (by_run confinement config now (Client client) b (length bytes) r)
         of r = ending_alike (length bytes) r r.ending
 
 -- ---- a peer's datagram
 
 module _ (slot : ℕ) (peer : Addr) (a b : Rows) (same : held_in a slot ≡ held_in b slot) where
-  peer_run : (code : List Insn) (transaction_id bytes : List ℕ) → run_for code transaction_id (Peer slot peer) a bytes ≡ run_for code transaction_id (Peer slot peer) b bytes
-  peer_run code transaction_id bytes =
-      ap (λ (o : Option Held). run_over (environment_around (context_of (context_for transaction_id (Peer slot peer))) (held_answer o)) code bytes) same
+  peer_run : (code : List Insn) (tx bytes : List ℕ) → run_for code tx (Peer slot peer) a bytes ≡ run_for code tx (Peer slot peer) b bytes
+  peer_run code tx bytes =
+      ap (λ (o : Option Held). run_over (environment_around (context_of (context_for tx (Peer slot peer))) (held_answer o)) code bytes) same
 
   peer_sent : (verdict : ℕ) (s : State) → sent_by (Peer slot peer) a verdict s ≡ sent_by (Peer slot peer) b verdict s
   peer_sent verdict s = ap (λ (o : Option Held). if verdict == SENDS
@@ -193,22 +193,22 @@ module _ (confinement : Option Confinement) (config : Config) (now : ℕ) (slot 
   there_alike : nat_lt slot (length a.slots) ≡ nat_lt slot (length b.slots)
   there_alike = ap (nat_lt slot) (sym (length-map a.slots (option_and_then (held_at (moment_of a.moment now)))) ∙ alike.count ∙ length-map b.slots (option_and_then (held_at (moment_of b.moment now))))
 
-  peer_alike : (code : List Insn) (transaction_id bytes : List ℕ) → RepliesUnchanged a b
-      (replied a (nat_lt slot (length a.slots)) (length bytes) (run_for code transaction_id (Peer slot peer) (rows_at now a) bytes))
-      (replied b (nat_lt slot (length b.slots)) (length bytes) (run_for code transaction_id (Peer slot peer) (rows_at now b) bytes))
-  peer_alike code transaction_id bytes =
-      subst (λ (there : Bool). RepliesUnchanged a b (replied a (nat_lt slot (length a.slots)) (length bytes) (run_for code transaction_id (Peer slot peer) (rows_at now a) bytes))
-      (replied b there (length bytes) (run_for code transaction_id (Peer slot peer) (rows_at now b) bytes))) there_alike
-      (subst (λ (r : Run). RepliesUnchanged a b (replied a (nat_lt slot (length a.slots)) (length bytes) (run_for code transaction_id (Peer slot peer) (rows_at now a) bytes))
-      (replied b (nat_lt slot (length a.slots)) (length bytes) r)) (peer_run slot peer (rows_at now a) (rows_at now b) at_slot code transaction_id bytes)
-      (replied_alike (nat_lt slot (length a.slots)) (length bytes) (run_for code transaction_id (Peer slot peer) (rows_at now a) bytes)))
+  peer_alike : (code : List Insn) (tx bytes : List ℕ) → RepliesUnchanged a b
+      (replied a (nat_lt slot (length a.slots)) (length bytes) (run_for code tx (Peer slot peer) (rows_at now a) bytes))
+      (replied b (nat_lt slot (length b.slots)) (length bytes) (run_for code tx (Peer slot peer) (rows_at now b) bytes))
+  peer_alike code tx bytes =
+      subst (λ (there : Bool). RepliesUnchanged a b (replied a (nat_lt slot (length a.slots)) (length bytes) (run_for code tx (Peer slot peer) (rows_at now a) bytes))
+      (replied b there (length bytes) (run_for code tx (Peer slot peer) (rows_at now b) bytes))) there_alike
+      (subst (λ (r : Run). RepliesUnchanged a b (replied a (nat_lt slot (length a.slots)) (length bytes) (run_for code tx (Peer slot peer) (rows_at now a) bytes))
+      (replied b (nat_lt slot (length a.slots)) (length bytes) r)) (peer_run slot peer (rows_at now a) (rows_at now b) at_slot code tx bytes)
+      (replied_alike (nat_lt slot (length a.slots)) (length bytes) (run_for code tx (Peer slot peer) (rows_at now a) bytes)))
 
 -- ---- the system
 
 pub programs_keep_users_apart : (programs : Programs) → KeepsUsersApart (by_programs programs)
-programs_keep_users_apart programs config now transaction_id (Client client) bytes =
-    acts_on_own (by_programs programs) config now transaction_id client bytes (λ a b are_a are_b alike.
-    client_alike programs.confinement config now client a b are_a are_b alike programs.client transaction_id bytes)
-programs_keep_users_apart programs config now transaction_id (Peer slot peer) bytes =
-    acts_unchanged (by_programs programs) config now transaction_id slot peer bytes (λ a b alike.
-    peer_alike programs.confinement config now slot peer a b alike programs.peer transaction_id bytes)
+programs_keep_users_apart programs config now tx (Client client) bytes =
+    acts_on_own (by_programs programs) config now tx client bytes (λ a b are_a are_b alike.
+    client_alike programs.confinement config now client a b are_a are_b alike programs.client tx bytes)
+programs_keep_users_apart programs config now tx (Peer slot peer) bytes =
+    acts_unchanged (by_programs programs) config now tx slot peer bytes (λ a b alike.
+    peer_alike programs.confinement config now slot peer a b alike programs.peer tx bytes)

@@ -55,14 +55,14 @@ module _ (old mid : RelayContents) (room : List ℕ) (given : Meta) (n : ℕ) (r
 
   -- what the programs do with it
   abbrev done_by_programs : Disposition
-  done_by_programs = disposition_of_datagram old.programs config (moment_of old.greatest given.now) given.transaction_id
+  done_by_programs = disposition_of_datagram old.programs config (moment_of old.greatest given.now) given.tx
       given.from old.rows (take n room)
 
   disposition_is : disposition_of_step with_bytes given n ≡ done_by_programs
   disposition_is =
       (λ i. disposition_of_datagram (kept i).programs (kept i).config (moment_of (kept i).greatest given.now)
-      given.transaction_id given.from (kept i).rows (bytes_are i))
-      ∙ sym (disposition_of_datagram_same old.config old.programs (moment_of old.greatest given.now) given.transaction_id
+      given.tx given.from (kept i).rows (bytes_are i))
+      ∙ sym (disposition_of_datagram_same old.config old.programs (moment_of old.greatest given.now) given.tx
       given.from old.rows (take n room))
 
   pub state_is : (new : RelayContents) → HasStepped with_bytes new (outcome_of with_bytes given n)

@@ -100,8 +100,8 @@ module _ (c : Config) where
   by_run_same confinement now from rows size r = λ i.
       of_run (λ client bytes. client_disposition_same now client rows bytes i) (disposition_of_sent confinement from (rows_at now rows)) from (rows_at now rows) size r
 
-  pub disposition_of_datagram_same : (programs : Programs) (now : ℕ) (transaction_id : List ℕ) (from : Source) (rows : Rows) (bytes : List ℕ)
-      → disposition_of_datagram programs d now transaction_id from rows bytes ≡ disposition_of_datagram programs c now transaction_id from rows bytes
-  disposition_of_datagram_same programs now transaction_id from rows bytes =
+  pub disposition_of_datagram_same : (programs : Programs) (now : ℕ) (tx : List ℕ) (from : Source) (rows : Rows) (bytes : List ℕ)
+      → disposition_of_datagram programs d now tx from rows bytes ≡ disposition_of_datagram programs c now tx from rows bytes
+  disposition_of_datagram_same programs now tx from rows bytes =
       ap (λ (done : Disposition). if is_served from then (if is_there from rows then done else Discarded NotServed) else Discarded NotServed)
-      (by_run_same programs.confinement now from rows (length bytes) (run_for (program_for programs from) transaction_id from (rows_at now rows) bytes))
+      (by_run_same programs.confinement now from rows (length bytes) (run_for (program_for programs from) tx from (rows_at now rows) bytes))

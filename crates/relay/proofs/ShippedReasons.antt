@@ -60,7 +60,7 @@ by_tests done ruled sent test slot done_is ruled_is agree =
 
 -- ---- a datagram of each side
 
-module _ (config : Config) (now : ℕ) (transaction_id : List ℕ) (rows : Rows) (datagram : List ℕ) (programs : Programs) where
+module _ (config : Config) (now : ℕ) (tx : List ℕ) (rows : Rows) (datagram : List ℕ) (programs : Programs) where
   abbrev live : Rows
   live = rows_at now rows
 
@@ -70,36 +70,36 @@ module _ (config : Config) (now : ℕ) (transaction_id : List ℕ) (rows : Rows)
   -- what the run of a side's program does
   abbrev done : Source → Disposition
   done from = disposition_by_run programs.confinement config now from rows (length datagram)
-      (run_for (program_for programs from) transaction_id from live datagram)
+      (run_for (program_for programs from) tx from live datagram)
 
   abbrev slot_of : Source → ℕ
-  slot_of from = exit_slot programs transaction_id from live datagram
+  slot_of from = exit_slot programs tx from live datagram
 
   abbrev IsRuled : Source → Type 0
   IsRuled from =
-      reason_of (done from) (discard_in (ruled_disposition config now transaction_id from rows datagram)) (slot_of from)
-      ≡ Done (ruled_disposition config now transaction_id from rows datagram)
+      reason_of (done from) (discard_in (ruled_disposition config now tx from rows datagram)) (slot_of from)
+      ≡ Done (ruled_disposition config now tx from rows datagram)
 
-  client_ruled : (client : Addr) → IsRelayStart client transaction_id live datagram
-      → ServesClient programs.client transaction_id client live datagram → IsRuled (Client client)
+  client_ruled : (client : Addr) → IsRelayStart client tx live datagram
+      → ServesClient programs.client tx client live datagram → IsRuled (Client client)
   client_ruled client start serves = elim (cases_Bool (begins_as_stun datagram)) [
     | inl stun ↦ by_message stun (message_in datagram) refl
     | inr other ↦ elim (cases_Bool (begins_as_channel_data datagram)) [
       | inl channel ↦ channelled other _ (relayed (channel_data_from client live datagram) (channel_data_permitted client live datagram) (serves.channel_data channel))
           (channel_data_agrees client live datagram)
       | inr neither ↦
-          let none = not_relayed programs.confinement config now transaction_id rows datagram programs.client client
-          (no_channel_data programs.confinement config now transaction_id rows datagram programs.client datagram start.is_datagram.bytes_fit
+          let none = not_relayed programs.confinement config now tx rows datagram programs.client client
+          (no_channel_data programs.confinement config now tx rows datagram programs.client datagram start.is_datagram.bytes_fit
           neither) in
           channelled other _ (relayed None tt (serves.other neither other) ∙ ap relayed_where_sent (sym none))
           (channel_data_agrees client live datagram)
     ]
   ] where
     relayed : (sends : Option Sending) → IfSome sends (IsPermitted [] (Client client) live)
-        → Relays programs.client transaction_id (Client client) live datagram sends
+        → Relays programs.client tx (Client client) live datagram sends
         → done (Client client) ≡ relayed_where_sent sends
     relayed sends permitted is =
-        ends_relayed passes (disposition_of_sent programs.confinement (Client client) live) transaction_id live datagram programs.client (Client client) sends is
+        ends_relayed passes (disposition_of_sent programs.confinement (Client client) live) tx live datagram programs.client (Client client) sends is
         ∙ all_relayed (Client client) live programs.confinement sends permitted
 
     channelled : begins_as_stun datagram ≡ false → (sent : Option Sending) → done (Client client) ≡ relayed_where_sent sent
@@ -110,9 +110,9 @@ module _ (config : Config) (now : ℕ) (transaction_id : List ℕ) (rows : Rows)
         (cond-false (begins_as_stun datagram) (disposition_of_message config now client rows (message_in datagram))
         (relayed_if (channel_data_test client live datagram)) other) agree
 
-    passed : PassesOn programs.client transaction_id (Client client) live datagram → IsRuled (Client client)
+    passed : PassesOn programs.client tx (Client client) live datagram → IsRuled (Client client)
     passed on = alike (done (Client client)) (passes client datagram) (slot_of (Client client))
-        (ends_passed passes (disposition_of_sent programs.confinement (Client client) live) transaction_id live datagram programs.client client on)
+        (ends_passed passes (disposition_of_sent programs.confinement (Client client) live) tx live datagram programs.client client on)
 
     by_message : begins_as_stun datagram ≡ true → (m : Option Parts) → message_in datagram ≡ m → IsRuled (Client client)
     by_message stun None e = passed (serves.stun stun (λ p found. absurd (none-some p (sym e ∙ found))))
@@ -131,20 +131,20 @@ module _ (config : Config) (now : ℕ) (transaction_id : List ℕ) (rows : Rows)
           (λ q found. subst (λ (r : Parts). is_plain_send r ≡ false) (same_Some p q (sym e ∙ found)) other))
     ]
 
-  peer_ruled : (slot : ℕ) (peer : Addr) → ServesPeer programs.peer transaction_id slot peer live datagram
+  peer_ruled : (slot : ℕ) (peer : Addr) → ServesPeer programs.peer tx slot peer live datagram
       → IsRuled (Peer slot peer)
   peer_ruled slot peer serves =
-      by_tests (done (Peer slot peer)) _ _ (peer_test slot peer transaction_id live datagram) (slot_of (Peer slot peer))
-      (ends_relayed passes (disposition_of_sent programs.confinement (Peer slot peer) live) transaction_id live datagram programs.peer (Peer slot peer) _ serves
-      ∙ all_relayed (Peer slot peer) live programs.confinement _ (peer_data_permitted slot peer transaction_id live datagram)) refl
-      (peer_agrees slot peer transaction_id live datagram)
+      by_tests (done (Peer slot peer)) _ _ (peer_test slot peer tx live datagram) (slot_of (Peer slot peer))
+      (ends_relayed passes (disposition_of_sent programs.confinement (Peer slot peer) live) tx live datagram programs.peer (Peer slot peer) _ serves
+      ∙ all_relayed (Peer slot peer) live programs.confinement _ (peer_data_permitted slot peer tx live datagram)) refl
+      (peer_agrees slot peer tx live datagram)
 
 -- ---- both sides
 
 module _ (serves_client : ClientServes) (serves_peer : PeerServes) (programs : Programs) (are : AreShipped programs)
-    (config : Config) (now : ℕ) (transaction_id : List ℕ) (rows : Rows) (datagram : List ℕ) where
-  start : (address : Addr) → IsRelayStart address transaction_id rows datagram
-      → IsRelayStart address transaction_id (rows_at now rows) datagram
+    (config : Config) (now : ℕ) (tx : List ℕ) (rows : Rows) (datagram : List ℕ) where
+  start : (address : Addr) → IsRelayStart address tx rows datagram
+      → IsRelayStart address tx (rows_at now rows) datagram
   start address is = record {
     well_formed = rows_at-well_formed now rows is.well_formed;
     is_address = is.is_address;
@@ -152,25 +152,25 @@ module _ (serves_client : ClientServes) (serves_peer : PeerServes) (programs : P
     is_datagram = is.is_datagram;
   }
 
-  is_ruled : (from : Source) → IsRelayStart (address_of_source from) transaction_id rows datagram
-      → IsRuled config now transaction_id rows datagram programs from
+  is_ruled : (from : Source) → IsRelayStart (address_of_source from) tx rows datagram
+      → IsRuled config now tx rows datagram programs from
   is_ruled (Client client) is =
-      client_ruled config now transaction_id rows datagram programs client (start client is)
-      (serves_client programs.client are.client.encoded are.client.safe client transaction_id (rows_at now rows) datagram
+      client_ruled config now tx rows datagram programs client (start client is)
+      (serves_client programs.client are.client.encoded are.client.safe client tx (rows_at now rows) datagram
       (start client is))
   is_ruled (Peer slot peer) is =
-      peer_ruled config now transaction_id rows datagram programs slot peer
-      (serves_peer programs.peer are.peer.encoded are.peer.safe slot peer transaction_id (rows_at now rows) datagram
+      peer_ruled config now tx rows datagram programs slot peer
+      (serves_peer programs.peer are.peer.encoded are.peer.safe slot peer tx (rows_at now rows) datagram
       (start peer is))
 
-  pub reason_is_ruled : (from : Source) → IsRelayStart (address_of_source from) transaction_id rows datagram
+  pub reason_is_ruled : (from : Source) → IsRelayStart (address_of_source from) tx rows datagram
       → is_served from ≡ true → is_there from rows ≡ true
-      → reason_of_datagram programs config now transaction_id from rows datagram
-      ≡ Done (ruled_disposition config now transaction_id from rows datagram)
+      → reason_of_datagram programs config now tx from rows datagram
+      ≡ Done (ruled_disposition config now tx from rows datagram)
   reason_is_ruled from is served there =
-      ap (λ (d : Disposition). reason_of d (discard_in (ruled_disposition config now transaction_id from rows datagram))
-      (exit_slot programs transaction_id from (rows_at now rows) datagram))
+      ap (λ (d : Disposition). reason_of d (discard_in (ruled_disposition config now tx from rows datagram))
+      (exit_slot programs tx from (rows_at now rows) datagram))
       (cond-true (is_served from) _ (Discarded NotServed) served
-      ∙ cond-true (is_there from rows) (done config now transaction_id rows datagram programs from) (Discarded NotServed)
+      ∙ cond-true (is_there from rows) (done config now tx rows datagram programs from) (Discarded NotServed)
       there)
       ∙ is_ruled from is

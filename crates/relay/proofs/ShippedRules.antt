@@ -49,9 +49,9 @@ use Rattle.rules.specs.laws.Permitted.{channel_data_permitted, peer_data_permitt
 
 -- ---- what follows from a run, by what follows from a datagram that is passed on, and from what is sent else
 
-module _ {X : Type 0} (passes : Addr → List ℕ → X) (sending : Option Sending → X) (transaction_id : List ℕ) (live : Rows) (datagram : List ℕ) (code : List Insn) where
+module _ {X : Type 0} (passes : Addr → List ℕ → X) (sending : Option Sending → X) (tx : List ℕ) (live : Rows) (datagram : List ℕ) (code : List Insn) where
   abbrev run_from : Source → Run
-  run_from from = run_for code transaction_id from live datagram
+  run_from from = run_for code tx from live datagram
 
   abbrev pub end : Source → X
   end from = of_run passes sending from live (length datagram) (run_from from)
@@ -63,19 +63,19 @@ module _ {X : Type 0} (passes : Addr → List ℕ → X) (sending : Option Sendi
   ]
 
   -- what is relayed by the program alone
-  pub ends_relayed : (from : Source) (sends : Option Sending) → Relays code transaction_id from live datagram sends → end from ≡ sending sends
+  pub ends_relayed : (from : Source) (sends : Option Sending) → Relays code tx from live datagram sends → end from ≡ sending sends
   ends_relayed from sends is =
       ap (λ (e : Ending). of_ending passes sending from live (length datagram) (run_from from) e) is.exits
       ∙ cond-false (is.verdict == PASSES) _ _ (differs is.verdict is.alone)
       ∙ ap sending is.sent
 
   -- what is passed on as it came
-  pub ends_passed : (client : Addr) → PassesOn code transaction_id (Client client) live datagram → end (Client client) ≡ passes client datagram
+  pub ends_passed : (client : Addr) → PassesOn code tx (Client client) live datagram → end (Client client) ≡ passes client datagram
   ends_passed client is =
       ap (λ (e : Ending). of_ending passes sending (Client client) live (length datagram) (run_from (Client client)) e) is.exits
       ∙ ap (passes client) is.unchanged
 
-module _ (confinement : Option Confinement) (config : Config) (now : ℕ) (transaction_id : List ℕ) (rows : Rows) (datagram : List ℕ) (code : List Insn) where
+module _ (confinement : Option Confinement) (config : Config) (now : ℕ) (tx : List ℕ) (rows : Rows) (datagram : List ℕ) (code : List Insn) where
   abbrev live : Rows
   live = rows_at now rows
 
@@ -87,17 +87,17 @@ module _ (confinement : Option Confinement) (config : Config) (now : ℕ) (trans
 
   -- what the run of the code gives
   abbrev pub given : Source → SystemReply
-  given from = end passes (relays from) transaction_id live datagram code from
+  given from = end passes (relays from) tx live datagram code from
 
   -- what the rules send is let through
-  gives_relayed : (from : Source) (sends : Option Sending) → IfSome sends (IsPermitted [] from live) → Relays code transaction_id from live datagram sends → given from ≡ reply_of_relaying rows sends
+  gives_relayed : (from : Source) (sends : Option Sending) → IfSome sends (IsPermitted [] from live) → Relays code tx from live datagram sends → given from ≡ reply_of_relaying rows sends
   gives_relayed from sends permitted is =
-      ends_relayed passes (relays from) transaction_id live datagram code from sends is
+      ends_relayed passes (relays from) tx live datagram code from sends is
       ∙ ap (reply_of_relaying rows) (all_through from live confinement sends permitted)
 
   -- what is passed on as it came goes by the rules
-  gives_passed : (client : Addr) → PassesOn code transaction_id (Client client) live datagram → given (Client client) ≡ from_client config now client rows datagram
-  gives_passed client = ends_passed passes (relays (Client client)) transaction_id live datagram code client
+  gives_passed : (client : Addr) → PassesOn code tx (Client client) live datagram → given (Client client) ≡ from_client config now client rows datagram
+  gives_passed client = ends_passed passes (relays (Client client)) tx live datagram code client
 
   -- ---- what begins neither as STUN nor as ChannelData does
 
@@ -125,7 +125,7 @@ module _ (confinement : Option Confinement) (config : Config) (now : ℕ) (trans
 
   -- ---- a client's datagram
 
-  client_gives : (client : Addr) → IsDatagram datagram → ServesClient code transaction_id client live datagram → given (Client client) ≡ from_client config now client rows datagram
+  client_gives : (client : Addr) → IsDatagram datagram → ServesClient code tx client live datagram → given (Client client) ≡ from_client config now client rows datagram
   client_gives client is serves = elim (cases_Bool (begins_as_stun datagram)) [
     | inl stun ↦ by_message stun (message_in datagram) refl
     | inr other ↦ elim (cases_Bool (begins_as_channel_data datagram)) [
@@ -157,13 +157,13 @@ module _ (confinement : Option Confinement) (config : Config) (now : ℕ) (trans
       let few : length live.slots ≤ slot = omega (arith, length-map rows.slots (option_and_then (held_at t)), beyond slot (length rows.slots) past) in
       ap (λ (o : Option (Option Held)). option_map (λ a. a.client) (option_map (λ held. held.allocation) (option_flatten o))) (slice_get_past live.slots slot few)
 
-  peer_gives : (slot : ℕ) (peer : Addr) → ServesPeer code transaction_id slot peer live datagram
-      → (if is_there (Peer slot peer) rows then given (Peer slot peer) else no_answer rows) ≡ by_rules config now transaction_id (Peer slot peer) rows datagram
+  peer_gives : (slot : ℕ) (peer : Addr) → ServesPeer code tx slot peer live datagram
+      → (if is_there (Peer slot peer) rows then given (Peer slot peer) else no_answer rows) ≡ by_rules config now tx (Peer slot peer) rows datagram
   peer_gives slot peer serves = elim (cases_Bool (is_there (Peer slot peer) rows)) [
-    | inl there ↦ cond-true (is_there (Peer slot peer) rows) (given (Peer slot peer)) (no_answer rows) there ∙ gives_relayed (Peer slot peer) _ (peer_data_permitted slot peer transaction_id live datagram) serves
+    | inl there ↦ cond-true (is_there (Peer slot peer) rows) (given (Peer slot peer)) (no_answer rows) there ∙ gives_relayed (Peer slot peer) _ (peer_data_permitted slot peer tx live datagram) serves
     | inr past ↦
         cond-false (is_there (Peer slot peer) rows) (given (Peer slot peer)) (no_answer rows) past
-        ∙ ap (λ (client : Option Addr). reply_of_relaying rows (client >>= λ c. option_map (ToClient c) (peer_data (has_permission slot peer live) (channel_of slot peer live) peer transaction_id datagram))) (sym (no_client slot past))
+        ∙ ap (λ (client : Option Addr). reply_of_relaying rows (client >>= λ c. option_map (ToClient c) (peer_data (has_permission slot peer live) (channel_of slot peer live) peer tx datagram))) (sym (no_client slot past))
   ]
 
 -- ---- both sides
@@ -171,31 +171,31 @@ module _ (confinement : Option Confinement) (config : Config) (now : ℕ) (trans
 -- what the two laws of the programs state
 abbrev pub ClientServes : Type 0
 ClientServes = (code : List Insn) → Encodes code CLIENT.now → IsSafe code
-    → (client : Addr) (transaction_id : List ℕ) (rows : Rows) (datagram : List ℕ) → IsRelayStart client transaction_id rows datagram → ServesClient code transaction_id client rows datagram
+    → (client : Addr) (tx : List ℕ) (rows : Rows) (datagram : List ℕ) → IsRelayStart client tx rows datagram → ServesClient code tx client rows datagram
 
 abbrev pub PeerServes : Type 0
 PeerServes = (code : List Insn) → Encodes code PEER.now → IsSafe code
-    → (slot : ℕ) (peer : Addr) (transaction_id : List ℕ) (rows : Rows) (datagram : List ℕ) → IsRelayStart peer transaction_id rows datagram → ServesPeer code transaction_id slot peer rows datagram
+    → (slot : ℕ) (peer : Addr) (tx : List ℕ) (rows : Rows) (datagram : List ℕ) → IsRelayStart peer tx rows datagram → ServesPeer code tx slot peer rows datagram
 
 module _ (serves_client : ClientServes) (serves_peer : PeerServes) (programs : Programs) (are : AreShipped programs)
-    (config : Config) (now : ℕ) (transaction_id : List ℕ) (rows : Rows) (datagram : List ℕ)
-    (well_formed : AreWellFormed rows) (is_id : AreBytes 12 transaction_id) (is : IsDatagram datagram) where
-  start : (address : Addr) → IsAddress address → IsRelayStart address transaction_id (rows_at now rows) datagram
+    (config : Config) (now : ℕ) (tx : List ℕ) (rows : Rows) (datagram : List ℕ)
+    (well_formed : AreWellFormed rows) (is_id : AreBytes 12 tx) (is : IsDatagram datagram) where
+  start : (address : Addr) → IsAddress address → IsRelayStart address tx (rows_at now rows) datagram
   start address fits = record { well_formed = rows_at-well_formed now rows well_formed; is_address = fits; id_bytes = is_id; is_datagram = is }
 
   -- any source
-  served : (from : Source) → IsAddress (address_of_source from) → by_programs programs config now transaction_id from rows datagram ≡ by_rules config now transaction_id from rows datagram
+  served : (from : Source) → IsAddress (address_of_source from) → by_programs programs config now tx from rows datagram ≡ by_rules config now tx from rows datagram
   served (Client client) fits =
-      client_gives programs.confinement config now transaction_id rows datagram programs.client client is
-      (serves_client programs.client are.client.encoded are.client.safe client transaction_id (rows_at now rows) datagram (start client fits))
+      client_gives programs.confinement config now tx rows datagram programs.client client is
+      (serves_client programs.client are.client.encoded are.client.safe client tx (rows_at now rows) datagram (start client fits))
   served (Peer slot peer) fits =
-      peer_gives programs.confinement config now transaction_id rows datagram programs.peer slot peer
-      (serves_peer programs.peer are.peer.encoded are.peer.safe slot peer transaction_id (rows_at now rows) datagram (start peer fits))
+      peer_gives programs.confinement config now tx rows datagram programs.peer slot peer
+      (serves_peer programs.peer are.peer.encoded are.peer.safe slot peer tx (rows_at now rows) datagram (start peer fits))
 
   -- to a client over IPv6 both systems are silent
   pub same_reply : (from : Source) → IsAddress (address_of_source from)
-      → if_served (by_programs programs) config now transaction_id from rows datagram ≡ if_served by_rules config now transaction_id from rows datagram
+      → if_served (by_programs programs) config now tx from rows datagram ≡ if_served by_rules config now tx from rows datagram
   same_reply from address = of (is_served from) where
-    of : (b : Bool) → (if b then by_programs programs config now transaction_id from rows datagram else no_answer rows) ≡ (if b then by_rules config now transaction_id from rows datagram else no_answer rows)
+    of : (b : Bool) → (if b then by_programs programs config now tx from rows datagram else no_answer rows) ≡ (if b then by_rules config now tx from rows datagram else no_answer rows)
     of true = served from address
     of false = refl

@@ -30,23 +30,23 @@ source_fits slots (Peer slot peer) is = is.1
 module _ (serves_client : ClientServes) (serves_peer : PeerServes) (programs : Programs) (are : AreShipped programs) (config : Config) where
   -- ---- one event
 
-  pub same_datagram : (s : SystemState) (given : Meta) (bytes : List ℕ) → AreWellFormed s.rows → AreBytes 12 given.transaction_id → IsDatagram bytes → IsAddress (address_of_source given.from)
+  pub same_datagram : (s : SystemState) (given : Meta) (bytes : List ℕ) → AreWellFormed s.rows → AreBytes 12 given.tx → IsDatagram bytes → IsAddress (address_of_source given.from)
       → system_step (by_programs programs) config s (Datagram given bytes) ≡ system_step by_rules config s (Datagram given bytes)
   same_datagram s given bytes rows is_id is address =
       ap (outcome_at (moment_of s.greatest given.now) s)
-      (same_reply serves_client serves_peer programs are (with_nonce config s.nonce) (moment_of s.greatest given.now) given.transaction_id s.rows bytes rows is_id is given.from address)
+      (same_reply serves_client serves_peer programs are (with_nonce config s.nonce) (moment_of s.greatest given.now) given.tx s.rows bytes rows is_id is given.from address)
 
   module _ (slots : ℕ) where
     same_step : (s : SystemState) (e : Event) → AreWellFormed s.rows → IsEvent slots e → system_step (by_programs programs) config s e ≡ system_step by_rules config s e
     same_step s (Datagram given bytes) rows (now, long, fit, from, short, are_bytes) =
-        same_datagram s given bytes rows (record { count = long; fit = are_fit given.transaction_id fit }) (record { short = short; bytes_fit = are_fit bytes are_bytes })
+        same_datagram s given bytes rows (record { count = long; fit = are_fit given.tx fit }) (record { short = short; bytes_fit = are_fit bytes are_bytes })
         (source_fits slots given.from from)
     same_step s (Nonce text) rows is = refl
 
     kept_step : (s : SystemState) (e : Event) → AreWellFormed s.rows → IsEvent slots e → AreWellFormed (system_step by_rules config s e).state.rows
     kept_step s (Datagram given bytes) rows (now, long, fit, from, short, are_bytes) = of (is_served given.from) refl where
-      of : (b : Bool) → is_served given.from ≡ b → AreWellFormed (if b then by_rules (with_nonce config s.nonce) (moment_of s.greatest given.now) given.transaction_id given.from s.rows bytes else no_answer s.rows).rows
-      of true e = keeps (with_nonce config s.nonce) (moment_of s.greatest given.now) given.transaction_id given.from s.rows bytes rows (is_served-is given.from (source_fits slots given.from from) e) (record { short = short; bytes_fit = are_fit bytes are_bytes })
+      of : (b : Bool) → is_served given.from ≡ b → AreWellFormed (if b then by_rules (with_nonce config s.nonce) (moment_of s.greatest given.now) given.tx given.from s.rows bytes else no_answer s.rows).rows
+      of true e = keeps (with_nonce config s.nonce) (moment_of s.greatest given.now) given.tx given.from s.rows bytes rows (is_served-is given.from (source_fits slots given.from from) e) (record { short = short; bytes_fit = are_fit bytes are_bytes })
       of false e = rows
     kept_step s (Nonce text) rows is = rows
 

@@ -34,24 +34,24 @@ use Rattle.rules.specs.laws.Permitted.{channel_data_permitted, peer_data_permitt
 
 -- ---- two ways to go on from what is sent, which agree on what is permitted
 
-module _ {X : Type 0} (passes : Addr → List ℕ → X) (one other : Option Sending → X) (transaction_id : List ℕ) (live : Rows) (datagram : List ℕ) (code : List Insn) where
+module _ {X : Type 0} (passes : Addr → List ℕ → X) (one other : Option Sending → X) (tx : List ℕ) (live : Rows) (datagram : List ℕ) (code : List Insn) where
   abbrev Agree : Source → Type 0
   Agree from = (sends : Option Sending) → IfSome sends (IsPermitted [] from live) → one sends ≡ other sends
 
   abbrev EndAlike : Source → Type 0
-  EndAlike from = end passes one transaction_id live datagram code from ≡ end passes other transaction_id live datagram code from
+  EndAlike from = end passes one tx live datagram code from ≡ end passes other tx live datagram code from
 
-  relayed_alike : (from : Source) → Agree from → (sends : Option Sending) → IfSome sends (IsPermitted [] from live) → Relays code transaction_id from live datagram sends → EndAlike from
+  relayed_alike : (from : Source) → Agree from → (sends : Option Sending) → IfSome sends (IsPermitted [] from live) → Relays code tx from live datagram sends → EndAlike from
   relayed_alike from agree sends permitted is =
-      ends_relayed passes one transaction_id live datagram code from sends is
+      ends_relayed passes one tx live datagram code from sends is
       ∙ agree sends permitted
-      ∙ sym (ends_relayed passes other transaction_id live datagram code from sends is)
+      ∙ sym (ends_relayed passes other tx live datagram code from sends is)
 
-  passed_alike : (client : Addr) → PassesOn code transaction_id (Client client) live datagram → EndAlike (Client client)
+  passed_alike : (client : Addr) → PassesOn code tx (Client client) live datagram → EndAlike (Client client)
   passed_alike client is =
-      ends_passed passes one transaction_id live datagram code client is ∙ sym (ends_passed passes other transaction_id live datagram code client is)
+      ends_passed passes one tx live datagram code client is ∙ sym (ends_passed passes other tx live datagram code client is)
 
-  client_alike : (client : Addr) → Agree (Client client) → ServesClient code transaction_id client live datagram → EndAlike (Client client)
+  client_alike : (client : Addr) → Agree (Client client) → ServesClient code tx client live datagram → EndAlike (Client client)
   client_alike client agree serves = elim (cases_Bool (begins_as_stun datagram)) [
     | inl stun ↦ by_message stun (message_in datagram) refl
     | inr no_stun ↦ elim (cases_Bool (begins_as_channel_data datagram)) [
@@ -66,42 +66,42 @@ module _ {X : Type 0} (passes : Addr → List ℕ → X) (one other : Option Sen
       | inr no_send ↦ passed_alike client (serves.stun stun (λ q found. subst (λ (r : Parts). is_plain_send r ≡ false) (same_Some p q (sym e ∙ found)) no_send))
     ]
 
-  peer_alike : (slot : ℕ) (peer : Addr) → Agree (Peer slot peer) → ServesPeer code transaction_id slot peer live datagram → EndAlike (Peer slot peer)
-  peer_alike slot peer agree serves = relayed_alike (Peer slot peer) agree _ (peer_data_permitted slot peer transaction_id live datagram) serves
+  peer_alike : (slot : ℕ) (peer : Addr) → Agree (Peer slot peer) → ServesPeer code tx slot peer live datagram → EndAlike (Peer slot peer)
+  peer_alike slot peer agree serves = relayed_alike (Peer slot peer) agree _ (peer_data_permitted slot peer tx live datagram) serves
 
 -- ---- the shipped programs
 
 module _ (serves_client : ClientServes) (serves_peer : PeerServes) (programs : Programs) (are : AreShipped programs)
-    (config : Config) (now : ℕ) (transaction_id : List ℕ) (rows : Rows) (datagram : List ℕ)
-    (well_formed : AreWellFormed rows) (is_id : AreBytes 12 transaction_id) (is : IsDatagram datagram) where
+    (config : Config) (now : ℕ) (tx : List ℕ) (rows : Rows) (datagram : List ℕ)
+    (well_formed : AreWellFormed rows) (is_id : AreBytes 12 tx) (is : IsDatagram datagram) where
   abbrev live : Rows
   live = rows_at now rows
 
   abbrev free : Programs
   free = record programs { confinement = None }
 
-  start : (address : Addr) → IsAddress address → IsRelayStart address transaction_id live datagram
+  start : (address : Addr) → IsAddress address → IsRelayStart address tx live datagram
   start address fits = record { well_formed = rows_at-well_formed now rows well_formed; is_address = fits; id_bytes = is_id; is_datagram = is }
 
   both_alike : {X : Type 0} (passes : Addr → List ℕ → X) (one other : Source → Option Sending → X) (from : Source) → IsAddress (address_of_source from)
       → ((sends : Option Sending) → IfSome sends (IsPermitted [] from live) → one from sends ≡ other from sends)
-      → end passes (one from) transaction_id live datagram (program_for programs from) from ≡ end passes (other from) transaction_id live datagram (program_for programs from) from
+      → end passes (one from) tx live datagram (program_for programs from) from ≡ end passes (other from) tx live datagram (program_for programs from) from
   both_alike passes one other (Client client) fits agree =
-      client_alike passes (one (Client client)) (other (Client client)) transaction_id live datagram programs.client client agree
-      (serves_client programs.client are.client.encoded are.client.safe client transaction_id live datagram (start client fits))
+      client_alike passes (one (Client client)) (other (Client client)) tx live datagram programs.client client agree
+      (serves_client programs.client are.client.encoded are.client.safe client tx live datagram (start client fits))
   both_alike passes one other (Peer slot peer) fits agree =
-      peer_alike passes (one (Peer slot peer)) (other (Peer slot peer)) transaction_id live datagram programs.peer slot peer agree
-      (serves_peer programs.peer are.peer.encoded are.peer.safe slot peer transaction_id live datagram (start peer fits))
+      peer_alike passes (one (Peer slot peer)) (other (Peer slot peer)) tx live datagram programs.peer slot peer agree
+      (serves_peer programs.peer are.peer.encoded are.peer.safe slot peer tx live datagram (start peer fits))
 
   pub reply_unconfined : (from : Source) → IsAddress (address_of_source from)
-      → if_served (by_programs programs) config now transaction_id from rows datagram ≡ if_served (by_programs free) config now transaction_id from rows datagram
+      → if_served (by_programs programs) config now tx from rows datagram ≡ if_served (by_programs free) config now tx from rows datagram
   reply_unconfined from fits =
       ap (λ (reply : SystemReply). if is_served from then (if is_there from rows then reply else no_answer rows) else no_answer rows)
       (both_alike (λ client bytes. from_client config now client rows bytes) (λ from sent. reply_of_relaying rows (let_through programs.confinement from live sent))
       (λ from sent. reply_of_relaying rows sent) from fits (λ sends permitted. ap (reply_of_relaying rows) (all_through from live programs.confinement sends permitted)))
 
   pub disposition_unconfined : (from : Source) → IsAddress (address_of_source from)
-      → disposition_of_datagram programs config now transaction_id from rows datagram ≡ disposition_of_datagram free config now transaction_id from rows datagram
+      → disposition_of_datagram programs config now tx from rows datagram ≡ disposition_of_datagram free config now tx from rows datagram
   disposition_unconfined from fits =
       ap (λ (done : Disposition). if is_served from then (if is_there from rows then done else Discarded NotServed) else Discarded NotServed)
       (both_alike (λ client bytes. client_disposition config now client rows bytes) (λ from. disposition_of_sent programs.confinement from live)

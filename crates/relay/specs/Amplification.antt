@@ -13,15 +13,15 @@ use Rattle.tables.specs.Rows.{Rows}
 
 -- a response to a datagram as the program leaves it; a peer's draws none
 abbrev pub RespondsAfterRun : Programs → Config → ℕ → List ℕ → Source → Rows → List ℕ → Sending → Type 0
-RespondsAfterRun programs config now transaction_id (Client client) rows bytes sending =
-    RespondsTo config now client rows (passed_on programs now transaction_id client rows bytes) sending
-RespondsAfterRun programs config now transaction_id (Peer slot peer) rows bytes sending = ⊥
+RespondsAfterRun programs config now tx (Client client) rows bytes sending =
+    RespondsTo config now client rows (passed_on programs now tx client rows bytes) sending
+RespondsAfterRun programs config now tx (Peer slot peer) rows bytes sending = ⊥
 
 -- what a datagram draws is relayed, and at most 67 bytes longer, or a response
 abbrev pub IsBoundedFor : Programs → Config → SystemState → Event → Option Sending → Type 0
 IsBoundedFor programs config s (Datagram given bytes) sent = IfSome sent (λ sending.
     IsRelayed (length bytes) sending
-    ⊎ RespondsAfterRun programs (with_nonce config s.nonce) (moment_of s.greatest given.now) given.transaction_id given.from s.rows bytes sending)
+    ⊎ RespondsAfterRun programs (with_nonce config s.nonce) (moment_of s.greatest given.now) given.tx given.from s.rows bytes sending)
 IsBoundedFor programs config s (Nonce text) sent = sent ≡ None
 
 -- from a state on, after any events, whatever event comes next

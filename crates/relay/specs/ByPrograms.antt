@@ -81,9 +81,9 @@ is_there (Client client) rows = true
 is_there (Peer slot peer) rows = nat_lt slot (length rows.slots)
 
 abbrev pub by_programs : Programs → System
-by_programs programs config now transaction_id from rows bytes =
+by_programs programs config now tx from rows bytes =
     if is_there from rows
-    then by_run programs.confinement config now from rows (length bytes) (run_for (program_for programs from) transaction_id from (rows_at now rows) bytes)
+    then by_run programs.confinement config now from rows (length bytes) (run_for (program_for programs from) tx from (rows_at now rows) bytes)
     else no_answer rows
 
 -- ---- what is done with a datagram
@@ -108,12 +108,12 @@ disposition_by_run confinement config now from rows size r =
     (disposition_of_sent confinement from (rows_at now rows)) from (rows_at now rows) size r
 
 abbrev pub disposition_by_programs : Programs → Config → ℕ → List ℕ → Source → Rows → List ℕ → Disposition
-disposition_by_programs programs config now transaction_id from rows bytes =
+disposition_by_programs programs config now tx from rows bytes =
     if is_there from rows
-    then disposition_by_run programs.confinement config now from rows (length bytes) (run_for (program_for programs from) transaction_id from (rows_at now rows) bytes)
+    then disposition_by_run programs.confinement config now from rows (length bytes) (run_for (program_for programs from) tx from (rows_at now rows) bytes)
     else Discarded NotServed
 
 -- clients are served over IPv4
 abbrev pub disposition_of_datagram : Programs → Config → ℕ → List ℕ → Source → Rows → List ℕ → Disposition
-disposition_of_datagram programs config now transaction_id from rows bytes =
-    if is_served from then disposition_by_programs programs config now transaction_id from rows bytes else Discarded NotServed
+disposition_of_datagram programs config now tx from rows bytes =
+    if is_served from then disposition_by_programs programs config now tx from rows bytes else Discarded NotServed

@@ -47,7 +47,7 @@ pub record HasRun (size : ℕ) (o : Outcome) (f : machine.Contents) (run : Run) 
 
 -- the run of a step
 abbrev pub run_at : RelayContents → Meta → ℕ → Run
-run_at r given n = run_for (program_for r.programs given.from) given.transaction_id given.from (rows_at r.greatest r.rows) (datagram_at r n)
+run_at r given n = run_for (program_for r.programs given.from) given.tx given.from (rows_at r.greatest r.rows) (datagram_at r n)
 
 -- the reply to a client's datagram that is passed on
 abbrev pub reply_of_passing : RelayContents → Addr → SystemReply

@@ -15,8 +15,8 @@ use Rattle.relay.specs.declared.reason.Reason.{Reason}
 -- of the bytes of a datagram, under a configuration
 abbrev pub grounds_of : Config → RelayContents → Meta → List ℕ → Grounds
 grounds_of config r given bytes = record {
-  ruled = discard_in (ruled_disposition config (moment_of r.greatest given.now) given.transaction_id given.from r.rows bytes);
-  slot = exit_slot r.programs given.transaction_id given.from (rows_at (moment_of r.greatest given.now) r.rows) bytes;
+  ruled = discard_in (ruled_disposition config (moment_of r.greatest given.now) given.tx given.from r.rows bytes);
+  slot = exit_slot r.programs given.tx given.from (rows_at (moment_of r.greatest given.now) r.rows) bytes;
 }
 
 -- where reasons are wanted, and the event of a line is a datagram

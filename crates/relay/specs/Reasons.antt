@@ -25,8 +25,8 @@ last_slot_of slot (v ∷ path) = last_slot_of v.slot path
 
 -- the slot at which the run over a datagram exits
 abbrev pub exit_slot : Programs → List ℕ → Source → Rows → List ℕ → ℕ
-exit_slot programs transaction_id from live bytes =
-    last_slot_of 0 (run_for (program_for programs from) transaction_id from live bytes).path
+exit_slot programs tx from live bytes =
+    last_slot_of 0 (run_for (program_for programs from) tx from live bytes).path
 
 -- where a program sends nothing: why the rules send nothing, or the slot of the exit where they send something
 abbrev pub reason_of_exit : Option Discard → ℕ → Reason
@@ -39,13 +39,13 @@ reason_of (Discarded ByProgram) ruled slot = reason_of_exit ruled slot
 reason_of done ruled slot = Done done
 
 abbrev pub reason_of_datagram : Programs → Config → ℕ → List ℕ → Source → Rows → List ℕ → Reason
-reason_of_datagram programs config now transaction_id from rows bytes =
-    reason_of (disposition_of_datagram programs config now transaction_id from rows bytes)
-    (discard_in (ruled_disposition config now transaction_id from rows bytes))
-    (exit_slot programs transaction_id from (rows_at now rows) bytes)
+reason_of_datagram programs config now tx from rows bytes =
+    reason_of (disposition_of_datagram programs config now tx from rows bytes)
+    (discard_in (ruled_disposition config now tx from rows bytes))
+    (exit_slot programs tx from (rows_at now rows) bytes)
 
 abbrev pub reason_of_event : Programs → Config → SystemState → Event → Reason
 reason_of_event programs config s (Datagram given bytes) =
     reason_of_datagram programs (with_nonce config s.nonce) (moment_of s.greatest given.now)
-    given.transaction_id given.from s.rows bytes
+    given.tx given.from s.rows bytes
 reason_of_event programs config s (Nonce text) = NonceSet

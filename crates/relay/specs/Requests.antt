@@ -14,19 +14,19 @@ use Rattle.tables.specs.Rows.{Rows, rows_at}
 
 -- a client's datagram as its program leaves it
 abbrev pub passed_on : Programs → ℕ → List ℕ → Addr → Rows → List ℕ → List ℕ
-passed_on programs now transaction_id client rows bytes =
-    datagram_in (length bytes) (run_for programs.client transaction_id (Client client) (rows_at now rows) bytes).state
+passed_on programs now tx client rows bytes =
+    datagram_in (length bytes) (run_for programs.client tx (Client client) (rows_at now rows) bytes).state
 
 -- a datagram that is, as the program leaves it, a request whose credentials are accepted
 abbrev pub IsRequestFrom : Programs → Config → ℕ → List ℕ → Source → Rows → List ℕ → Type 0
-IsRequestFrom programs config now transaction_id (Client client) rows bytes =
-    IsAuthenticated config now client rows (passed_on programs now transaction_id client rows bytes)
-IsRequestFrom programs config now transaction_id (Peer slot peer) rows bytes = ⊥
+IsRequestFrom programs config now tx (Client client) rows bytes =
+    IsAuthenticated config now client rows (passed_on programs now tx client rows bytes)
+IsRequestFrom programs config now tx (Peer slot peer) rows bytes = ⊥
 
 -- an event in the state in which it comes
 abbrev pub IsRequestEvent : Programs → Config → SystemState → Event → Type 0
 IsRequestEvent programs config s (Datagram given bytes) =
-    IsRequestFrom programs (with_nonce config s.nonce) (moment_of s.greatest given.now) given.transaction_id given.from s.rows bytes
+    IsRequestFrom programs (with_nonce config s.nonce) (moment_of s.greatest given.now) given.tx given.from s.rows bytes
 IsRequestEvent programs config s (Nonce text) = ⊥
 
 -- some event of a list

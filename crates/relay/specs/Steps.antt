@@ -24,7 +24,7 @@ ruled_outcome_of r given n = system_step by_rules r.config (state_of r) (Datagra
 -- what a relay does with it at a moment, and at the moment of the step
 abbrev pub disposition_for : RelayContents → Meta → ℕ → ℕ → Disposition
 disposition_for r given n moment =
-    disposition_of_datagram r.programs r.config moment given.transaction_id given.from r.rows (datagram_at r n)
+    disposition_of_datagram r.programs r.config moment given.tx given.from r.rows (datagram_at r n)
 
 abbrev pub disposition_of_step : RelayContents → Meta → ℕ → Disposition
 disposition_of_step r given n = disposition_for r given n (moment_of r.greatest given.now)

@@ -32,12 +32,7 @@ pub(crate) enum Found {
 
 /// Returns whether data may go to a peer: anywhere, where programs are not confined, or where that isn't asked.
 #[inline(always)]
-fn may_go(
-    confinement: &Option<Confinement>,
-    asks: bool,
-    live: &LiveSlot<'_>,
-    peer: Addr,
-) -> bool
+fn may_go(confinement: &Option<Confinement>, asks: bool, live: &LiveSlot<'_>, peer: Addr) -> bool
     ensures { result ≡ may_go (asked asks confinement.now) live.now peer }
 {
     if !asks {
@@ -51,12 +46,7 @@ fn may_go(
 
 /// Returns whether data may come from a peer: from anywhere, where programs are not confined, or where that isn't asked.
 #[inline(always)]
-fn may_come(
-    confinement: &Option<Confinement>,
-    asks: bool,
-    live: &LiveSlot<'_>,
-    peer: Addr,
-) -> bool
+fn may_come(confinement: &Option<Confinement>, asks: bool, live: &LiveSlot<'_>, peer: Addr) -> bool
     ensures { result ≡ may_come (asked asks confinement.now) live.now peer }
 {
     if !asks {

@@ -334,7 +334,7 @@ impl Relay {
         self.tables.law_are_well_formed();
         let helpers = Lookup::new(live_for(&self.tables, self.greatest, meta.from));
         let program = program_for(&self.client, &self.peer, meta.from);
-        let context = context_for(meta.transaction_id, meta.from);
+        let context = context_for(meta.tx, meta.from);
         let outcome = run_over(program, &mut self.frame, &helpers, &context, n);
         match outcome.verdict {
             PASSES => match meta.from {
@@ -364,7 +364,7 @@ impl Relay {
         self.tables.law_are_well_formed();
         let helpers = Lookup::new(live_for(&self.tables, moment, meta.from));
         let program = program_for(&self.client, &self.peer, meta.from);
-        let context = context_for(meta.transaction_id, meta.from);
+        let context = context_for(meta.tx, meta.from);
         let slot = last_slot_over(program, &mut self.frame, &helpers, &context, n);
         Grounds { ruled, slot }
     }

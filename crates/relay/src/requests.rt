@@ -13,10 +13,10 @@ ghost use Rattle.relay.specs.Requests.{IsRequestFrom, SomeRequest};
 /// it, a request of TURN whose credentials are accepted; and that the rows are the same after events of which none is
 /// such a request.
 pub fn law_requests_change_rows()
-    ensures datagrams { (programs : Programs) (config : Config) (now : ℕ) (transaction_id : List ℕ) (from : Source)
+    ensures datagrams { (programs : Programs) (config : Config) (now : ℕ) (tx : List ℕ) (from : Source)
         (rows : Rows) (bytes : List ℕ)
-        → ((by_programs programs config now transaction_id from rows bytes).rows ≡ rows)
-        ⊎ IsRequestFrom programs config now transaction_id from rows bytes }
+        → ((by_programs programs config now tx from rows bytes).rows ≡ rows)
+        ⊎ IsRequestFrom programs config now tx from rows bytes }
     ensures events { (programs : Programs) (config : Config) (s : SystemState) (events : List Event)
         → ((state_after_events (by_programs programs) config s events).rows ≡ s.rows)
         ⊎ SomeRequest programs config s events }

@@ -21,19 +21,19 @@ use tables::{LiveSlot, Tables};
 use verifier::Verified;
 
 /// Returns the context of a datagram.
-pub(crate) fn context_for(transaction_id: [u8; 12], from: Source) -> Context
-    ensures { result ≡ context_for transaction_id from }
+pub(crate) fn context_for(tx: [u8; 12], from: Source) -> Context
+    ensures { result ≡ context_for tx from }
 {
     match from {
         Source::Client(source) => Context {
             side: Side::Client,
             source,
-            transaction_id,
+            tx,
         },
         Source::Peer { addr, .. } => Context {
             side: Side::Peer,
             source: addr,
-            transaction_id,
+            tx,
         },
     }
 }

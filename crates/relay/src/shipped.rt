@@ -67,11 +67,11 @@ pub fn law_shipped_programs_are_the_rules()
 /// See docs/DECISIONS.md, "Why a replay answers so".
 pub fn law_shipped_reasons_are_the_rules()
     ensures { (programs : Programs) → AreShipped programs
-        → (config : Config) (now : ℕ) (transaction_id : List ℕ) (from : Source) (rows : Rows) (bytes : List ℕ)
-        → IsRelayStart (address_of_source from) transaction_id rows bytes
+        → (config : Config) (now : ℕ) (tx : List ℕ) (from : Source) (rows : Rows) (bytes : List ℕ)
+        → IsRelayStart (address_of_source from) tx rows bytes
         → is_served from ≡ true → is_there from rows ≡ true
-        → reason_of_datagram programs config now transaction_id from rows bytes
-        ≡ Done (ruled_disposition config now transaction_id from rows bytes) }
+        → reason_of_datagram programs config now tx from rows bytes
+        ≡ Done (ruled_disposition config now tx from rows bytes) }
 {
     law_client_serves();
     law_peer_serves();
@@ -114,7 +114,7 @@ impl Relay {
         law_client_serves();
         law_peer_serves();
         law_is_source(meta.from);
-        law_are_bytes(&meta.transaction_id);
+        law_are_bytes(&meta.tx);
         law_all_fit(self.frame().room());
         self.tables().law_are_well_formed();
     }
@@ -127,7 +127,7 @@ impl Relay {
         law_client_serves();
         law_peer_serves();
         law_is_source(meta.from);
-        law_are_bytes(&meta.transaction_id);
+        law_are_bytes(&meta.tx);
         law_all_fit(self.frame().room());
         self.tables().law_are_well_formed();
     }

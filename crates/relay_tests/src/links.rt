@@ -5,7 +5,7 @@ use crate::wire::{Fate, Wire};
 use events::{Parsed, Source, parse};
 use relay::Relay;
 use semantics::MAX_DATAGRAM;
-use server::{Endpoint, ServeError, serve_once};
+use server::{Place, ServeError, serve_once};
 use std::alloc::Global;
 use std::process::Abort;
 use std::test::Fail;
@@ -39,12 +39,12 @@ fn serve(
         return Ok(Ok(false));
     };
     let (endpoint, from) = match meta.from {
-        Source::Client(client) => (Endpoint::Client, client),
-        Source::Peer { slot, addr } => (Endpoint::Slot(slot), addr),
+        Source::Client(client) => (Place::Client, client),
+        Source::Peer { slot, addr } => (Place::Slot(slot), addr),
     };
     let mut wire = Wire::new(alloc, from, &room[..n], fate, log);
     let now = now.unwrap_or(meta.now);
-    let served = serve_once(relay, &mut wire, endpoint, now, meta.transaction_id);
+    let served = serve_once(relay, &mut wire, endpoint, now, meta.tx);
     if !wire.stores_all() {
         return Err(Fail::new("no room for a call"));
     }

@@ -4,7 +4,7 @@ use crate::story::shipped;
 use attributes::{Addr, write_xor_addr};
 use credentials::{Key, sign};
 use relay::Relay;
-use server::{Endpoint, Link, LinkError, serve_once};
+use server::{Link, LinkFault, Place, serve_once};
 use std::alloc::Global;
 use std::io;
 use std::net::{Ipv4Addr, Net, SocketAddr, UdpSocket};
@@ -61,22 +61,22 @@ struct Exchange {
 }
 
 /// Returns an address as messages have it.
-fn address_of(address: SocketAddr) -> Result<Addr, LinkError> {
+fn address_of(address: SocketAddr) -> Result<Addr, LinkFault> {
     match address {
         SocketAddr::V4(address) => Ok(Addr::V4 {
             ip: address.ip().octets(),
             port: address.port(),
         }),
-        SocketAddr::V6(_) => Err(LinkError),
+        SocketAddr::V6(_) => Err(LinkFault),
     }
 }
 
 impl Sockets {
     /// Returns the socket of an endpoint.
-    fn at(&self, endpoint: Endpoint) -> &UdpSocket {
+    fn at(&self, endpoint: Place) -> &UdpSocket {
         match endpoint {
-            Endpoint::Client => &self.clients,
-            Endpoint::Slot(_) => &self.slot,
+            Place::Client => &self.clients,
+            Place::Slot(_) => &self.slot,
         }
     }
 }
@@ -84,23 +84,23 @@ impl Sockets {
 impl Link for Sockets {
     fn receive(
         &mut self,
-        endpoint: Endpoint,
+        endpoint: Place,
         into: &mut [u8],
-    ) -> Result<Option<(usize, Addr)>, LinkError> {
+    ) -> Result<Option<(usize, Addr)>, LinkFault> {
         match self.at(endpoint).recv_from(into) {
             Ok((n, from)) => Ok(Some((n, address_of(from)?))),
-            Err(_) => Err(LinkError),
+            Err(_) => Err(LinkFault),
         }
     }
 
-    fn send(&mut self, endpoint: Endpoint, to: Addr, bytes: &[u8]) -> Result<(), LinkError> {
+    fn send(&mut self, endpoint: Place, to: Addr, bytes: &[u8]) -> Result<(), LinkFault> {
         let Addr::V4 { ip, port } = to else {
-            return Err(LinkError);
+            return Err(LinkFault);
         };
         let to = SocketAddr::from((Ipv4Addr::from(ip), port));
         match self.at(endpoint).send_to(bytes, to) {
             Ok(n) if n == bytes.len() => Ok(()),
-            _ => Err(LinkError),
+            _ => Err(LinkFault),
         }
     }
 }
@@ -163,7 +163,7 @@ fn start<R: Net>(rt: &R, alloc: Global) -> Result<Session, Fail> {
 
 impl Session {
     /// Serves the one datagram that has come at an endpoint.
-    fn serve(&mut self, endpoint: Endpoint) -> Result<(), Fail> {
+    fn serve(&mut self, endpoint: Place) -> Result<(), Fail> {
         match serve_once(&mut self.relay, &mut self.sockets, endpoint, 1000, TX)? {
             Some(_) => Ok(()),
             None => Err(Fail::new("nothing came")),
@@ -173,13 +173,13 @@ impl Session {
     /// Has the client send a datagram, which is served.
     fn client_sends(&mut self, datagram: &[u8]) -> Result<(), Fail> {
         self.ends.client.send(datagram)?;
-        self.serve(Endpoint::Client)
+        self.serve(Place::Client)
     }
 
     /// Has the peer send a datagram, which is served.
     fn peer_sends(&mut self, datagram: &[u8]) -> Result<(), Fail> {
         self.ends.peer.send(datagram)?;
-        self.serve(Endpoint::Slot(0))
+        self.serve(Place::Slot(0))
     }
 }
 

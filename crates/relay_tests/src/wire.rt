@@ -7,7 +7,7 @@ use attributes::Addr;
 use basics::streams::Output;
 use events::{Action, write_answer};
 use semantics::MAX_DATAGRAM;
-use server::{Endpoint, Link, LinkError};
+use server::{Link, LinkFault, Place};
 use std::alloc::{AllocError, Global};
 
 /// What happens to a datagram.
@@ -32,16 +32,16 @@ pub enum Fate {
 pub enum Entry {
     /// A receive, with the bytes that the buffer has afterwards.
     Received {
-        endpoint: Endpoint,
+        endpoint: Place,
         buffer: Vec<u8>,
-        answer: Result<Option<(usize, Addr)>, LinkError>,
+        answer: Result<Option<(usize, Addr)>, LinkFault>,
     },
     /// A send.
     Sent {
-        endpoint: Endpoint,
+        endpoint: Place,
         to: Addr,
         bytes: Vec<u8>,
-        answer: Result<(), LinkError>,
+        answer: Result<(), LinkFault>,
     },
 }
 
@@ -98,11 +98,11 @@ impl Wire<'_> {
     ghost use Rattle.std.specs.Prelude.{◌≡◌};
 
     /// Writes the datagram over the first bytes of a buffer, if it comes.
-    fn take(&self, into: &mut [u8]) -> Result<Option<(usize, Addr)>, LinkError> {
+    fn take(&self, into: &mut [u8]) -> Result<Option<(usize, Addr)>, LinkFault> {
         match self.fate {
             Fate::Lost | Fate::Late => return Ok(None),
             Fate::TooLong => return Ok(Some((MAX_DATAGRAM + 1, self.from))),
-            Fate::ReceiveFails => return Err(LinkError),
+            Fate::ReceiveFails => return Err(LinkFault),
             Fate::Served | Fate::SendFails => {}
         }
         let n = self.datagram.len();
@@ -111,28 +111,28 @@ impl Wire<'_> {
                 room.copy_from_slice(self.datagram);
                 Ok(Some((n, self.from)))
             }
-            None => Err(LinkError),
+            None => Err(LinkFault),
         }
     }
 
     /// Writes the line of what is sent, unless its send fails.
-    fn write(&mut self, endpoint: Endpoint, to: Addr, bytes: &[u8]) -> Result<(), LinkError>
+    fn write(&mut self, endpoint: Place, to: Addr, bytes: &[u8]) -> Result<(), LinkFault>
         ensures entries { self.new.entries ≡ self.old.entries }
         ensures is_full { self.new.is_full ≡ self.old.is_full }
     {
         if self.fate == Fate::SendFails {
-            return Err(LinkError);
+            return Err(LinkFault);
         }
         let action = match endpoint {
-            Endpoint::Client => Action::ToClient { client: to, bytes },
-            Endpoint::Slot(slot) => Action::ToPeer {
+            Place::Client => Action::ToClient { client: to, bytes },
+            Place::Slot(slot) => Action::ToPeer {
                 slot,
                 peer: to,
                 bytes,
             },
         };
         let mut output = Output::new(&mut *self.log);
-        write_answer(&mut output, &action, b"\n").map_err(|_| LinkError)
+        write_answer(&mut output, &action, b"\n").map_err(|_| LinkFault)
     }
 }
 
@@ -143,9 +143,9 @@ impl Link for Wire<'_> {
 
     fn receive(
         &mut self,
-        endpoint: Endpoint,
+        endpoint: Place,
         into: &mut [u8],
-    ) -> Result<Option<(usize, Addr)>, LinkError> {
+    ) -> Result<Option<(usize, Addr)>, LinkFault> {
         let answer = self.take(into);
         let Ok(buffer) = copied(self.alloc, into) else {
             self.is_full = true;
@@ -160,7 +160,7 @@ impl Link for Wire<'_> {
         answer
     }
 
-    fn send(&mut self, endpoint: Endpoint, to: Addr, bytes: &[u8]) -> Result<(), LinkError> {
+    fn send(&mut self, endpoint: Place, to: Addr, bytes: &[u8]) -> Result<(), LinkFault> {
         let answer = self.write(endpoint, to, bytes);
         let Ok(bytes) = copied(self.alloc, bytes) else {
             self.is_full = true;

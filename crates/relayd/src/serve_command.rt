@@ -14,8 +14,8 @@ use rand_core::Rng;
 use relay::{Disposition, Relay, Source};
 use replacing::{Sides, UserList};
 use server::{
-    Arrival, Counters, Endpoint, LinkError, Moments, Outcome, Ports, Schedule, Served, TURNS,
-    Timer, draw_nonce, serve_round, turn,
+    Arrival, Counters, LinkFault, Moments, Outcome, Place, Ports, Schedule, Served, TURNS, Timer,
+    draw_nonce, serve_round, turn,
 };
 use sockets::Sockets;
 use std::fs::File;
@@ -48,7 +48,7 @@ pub(crate) struct Wire<'a> {
     pub(crate) counters: Counters,
     pub(crate) rng: StdRng,
     /// The transaction id for an indication about the next datagram.
-    pub(crate) transaction_id: [u8; 12],
+    pub(crate) tx: [u8; 12],
 }
 
 /// A server that has bound its sockets.
@@ -234,12 +234,12 @@ impl<'a> Server<'a> {
     /// Takes one turn at an endpoint, at a moment. Returns whether a datagram has come, or a fault. A transaction id is drawn
     /// where the one before may have been used.
     #[inline(always)]
-    fn turn(&mut self, endpoint: Endpoint, now: u64) -> bool {
+    fn turn(&mut self, endpoint: Place, now: u64) -> bool {
         let wire = &mut self.wire;
         let arrival = Arrival {
             endpoint,
             now,
-            transaction_id: wire.transaction_id,
+            tx: wire.tx,
         };
         let served = turn(
             &mut self.relay,
@@ -252,10 +252,10 @@ impl<'a> Server<'a> {
         match served {
             Ok(None) => return false,
             Ok(Some(served)) => self.log_response(served, now),
-            Err(LinkError) => {}
+            Err(LinkFault) => {}
         }
         let wire = &mut self.wire;
-        wire.rng.fill_bytes(&mut wire.transaction_id);
+        wire.rng.fill_bytes(&mut wire.tx);
         true
     }
 
@@ -292,7 +292,7 @@ impl<'a> Server<'a> {
     /// Serves an endpoint until nothing comes there, or for as many datagrams as it may have, all at one moment. Returns how many
     /// came.
     #[inline(always)]
-    fn turns(&mut self, endpoint: Endpoint, now: u64) -> usize {
+    fn turns(&mut self, endpoint: Place, now: u64) -> usize {
         for count in 0..TURNS {
             if !self.turn(endpoint, now) {
                 return count;
@@ -313,8 +313,8 @@ impl<'a> Server<'a> {
             self.wire.sockets.receive_ahead(endpoint);
         }
         let count = match endpoint {
-            Endpoint::Client => self.turns(Endpoint::Client, now),
-            Endpoint::Slot(slot) => self.turns(Endpoint::Slot(slot), now),
+            Place::Client => self.turns(Place::Client, now),
+            Place::Slot(slot) => self.turns(Place::Slot(slot), now),
         };
         self.is_busy = count > 1;
         count == TURNS

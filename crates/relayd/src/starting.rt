@@ -121,15 +121,15 @@ fn wire_of<'a, R: Files<File = File> + Net + RandomSource + AllocGlobal>(
     let addresses = addresses_of(server_options, options);
     let (sockets, filter) = bind_sockets(rt, addresses, relayed, rules)?;
     let mut rng: StdRng = make_rng(rt).map_err(|_| CommandError::Random)?;
-    let mut transaction_id = [0; 12];
-    rng.fill_bytes(&mut transaction_id);
+    let mut tx = [0; 12];
+    rng.fill_bytes(&mut tx);
     Ok(Wire {
         sockets,
         filter: Some(filter),
         recording: recording_of(rt, server_options.record)?,
         counters: Counters::new(),
         rng,
-        transaction_id,
+        tx,
     })
 }
 

@@ -20,7 +20,7 @@ trace_context = record {
   side = 0;
   source = 0 ∷ 1 ∷ 0 ∷ 9 ∷ 127 ∷ 0 ∷ 0 ∷ 1 ∷ [];
   wide_source = 0 ∷ 1 ∷ 0 ∷ 9 ∷ 127 ∷ 0 ∷ 0 ∷ 1 ∷ replicate 12 0;
-  transaction_id = 0 ∷ 0 ∷ 0 ∷ 0 ∷ 0 ∷ 0 ∷ 0 ∷ 0 ∷ 0 ∷ 0 ∷ 0 ∷ 0 ∷ [];
+  tx = 0 ∷ 0 ∷ 0 ∷ 0 ∷ 0 ∷ 0 ∷ 0 ∷ 0 ∷ 0 ∷ 0 ∷ 0 ∷ 0 ∷ [];
 }
 
 -- the digits of the option, empty where it is absent

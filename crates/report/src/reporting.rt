@@ -43,7 +43,7 @@ const CONTEXT: Context = Context {
         ip: [127, 0, 0, 1],
         port: 9,
     },
-    transaction_id: [0; 12],
+    tx: [0; 12],
 };
 
 /// Prints a line.

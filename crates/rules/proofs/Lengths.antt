@@ -3,11 +3,11 @@ use Rattle.std.proofs.Common.{◌≡◌, ℕ, List, length, refl}
 use Rattle.attributes.specs.Addresses.{address_value, xor_bytes}
 use Rattle.addresses.specs.declared.address.Addr.TheVariants.{V4, V6}
 
-pub length_of_ipv4 : (ip : List ℕ) (port : ℕ) (transaction_id : List ℕ) → length (address_value (V4 ip port) transaction_id) ≡ 8
+pub length_of_ipv4 : (ip : List ℕ) (port : ℕ) (tx : List ℕ) → length (address_value (V4 ip port) tx) ≡ 8
 unfolding address_value xor_bytes
-length_of_ipv4 ip port transaction_id = refl
+length_of_ipv4 ip port tx = refl
 
-pub length_of_ipv6 : (ip : List ℕ) (port : ℕ) (transaction_id : List ℕ) → length (address_value (V6 ip port) transaction_id)
+pub length_of_ipv6 : (ip : List ℕ) (port : ℕ) (tx : List ℕ) → length (address_value (V6 ip port) tx)
     ≡ 20
 unfolding address_value xor_bytes
-length_of_ipv6 ip port transaction_id = refl
+length_of_ipv6 ip port tx = refl

@@ -83,5 +83,5 @@ from_client config now client rows bytes =
     else reply_of_relaying rows (channel_data_from client (rows_at now rows) bytes)
 
 abbrev pub by_rules : System
-by_rules config now transaction_id (Client client) rows bytes = from_client config now client rows bytes
-by_rules config now transaction_id (Peer slot peer) rows bytes = reply_of_relaying rows (peer_data_to slot peer transaction_id (rows_at now rows) bytes)
+by_rules config now tx (Client client) rows bytes = from_client config now client rows bytes
+by_rules config now tx (Peer slot peer) rows bytes = reply_of_relaying rows (peer_data_to slot peer tx (rows_at now rows) bytes)

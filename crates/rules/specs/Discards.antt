@@ -19,16 +19,16 @@ use Rattle.rules.specs.declared.disposition.Disposition.TheVariants.{Relayed, An
 
 -- the tests of a peer's datagram (RFC 8656, sections 11.3 and 12.7)
 abbrev pub peer_test : ℕ → Addr → List ℕ → Rows → List ℕ → Result (Unit {0}) Discard
-peer_test slot peer transaction_id rows content = do
+peer_test slot peer tx rows content = do
   _ ← ok_or (allocation_at slot rows) NoAllocation
   _ ← check (has_permission slot peer rows) NoPermission
-  check (nat_le (length (message_to_client (channel_of slot peer rows) peer transaction_id content)) MAX_DATAGRAM) TooLong
+  check (nat_le (length (message_to_client (channel_of slot peer rows) peer tx content)) MAX_DATAGRAM) TooLong
 
 -- what the rules do with a datagram of either side
 abbrev pub ruled_disposition : Config → ℕ → List ℕ → Source → Rows → List ℕ → Disposition
-ruled_disposition config now transaction_id (Client client) rows bytes = client_disposition config now client rows bytes
-ruled_disposition config now transaction_id (Peer slot peer) rows bytes =
-    relayed_if (peer_test slot peer transaction_id (rows_at now rows) bytes)
+ruled_disposition config now tx (Client client) rows bytes = client_disposition config now client rows bytes
+ruled_disposition config now tx (Peer slot peer) rows bytes =
+    relayed_if (peer_test slot peer tx (rows_at now rows) bytes)
 
 -- why nothing is sent, if nothing is
 abbrev pub discard_in : Disposition → Option Discard

@@ -45,7 +45,7 @@ send_test client rows p = do
   _ ← check (all_understood p) UnknownAttribute
   value ← ok_or (first_value p XOR_PEER_ADDRESS) Incomplete
   _ ← ok_or (first_value p DATA) Incomplete
-  peer ← ok_or (address_in p.transaction_id value) Incomplete
+  peer ← ok_or (address_in p.tx value) Incomplete
   _ ← check (has_permission a.slot peer rows) NoPermission
   check (is_of_family a.family peer) OtherFamily
 

@@ -51,15 +51,15 @@ KeepsOthers (Peer slot peer) before after = before.slots ≡ after.slots
 
 -- For a datagram with its source, at a moment: over two tables that look alike to the source a system sends the same, and leaves
 -- the same own rows; and over any it leaves the rows of all others as they are.
-pub record ActsOnItsOwn (system : System) (config : Config) (now : ℕ) (transaction_id : List ℕ) (from : Source) (bytes : List ℕ) : Type 0 where
+pub record ActsOnItsOwn (system : System) (config : Config) (now : ℕ) (tx : List ℕ) (from : Source) (bytes : List ℕ) : Type 0 where
   pub answer : (a b : Rows) → AreWellFormed a → AreWellFormed b → LookAlike from (rows_at now a) (rows_at now b)
-      → (system config now transaction_id from a bytes).answer ≡ (system config now transaction_id from b bytes).answer
+      → (system config now tx from a bytes).answer ≡ (system config now tx from b bytes).answer
   pub own : (a b : Rows) → AreWellFormed a → AreWellFormed b → LookAlike from (rows_at now a) (rows_at now b)
-      → own_rows from (rows_at now (system config now transaction_id from a bytes).rows) ≡ own_rows from (rows_at now (system config now transaction_id from b bytes).rows)
+      → own_rows from (rows_at now (system config now tx from a bytes).rows) ≡ own_rows from (rows_at now (system config now tx from b bytes).rows)
   pub others : (rows : Rows) → AreWellFormed rows
-      → KeepsOthers from (rows_at now rows) (rows_at now (system config now transaction_id from rows bytes).rows)
+      → KeepsOthers from (rows_at now rows) (rows_at now (system config now tx from rows bytes).rows)
 
 -- it does so for every datagram
 abbrev pub KeepsUsersApart : System → Type 0
-KeepsUsersApart system = (config : Config) (now : ℕ) (transaction_id : List ℕ) (from : Source) (bytes : List ℕ)
-    → ActsOnItsOwn system config now transaction_id from bytes
+KeepsUsersApart system = (config : Config) (now : ℕ) (tx : List ℕ) (from : Source) (bytes : List ℕ)
+    → ActsOnItsOwn system config now tx from bytes

@@ -42,7 +42,7 @@ send permits p = do
   _ ← guard (all_understood p)
   value ← first_value p XOR_PEER_ADDRESS
   content ← first_value p DATA
-  to ← address_in p.transaction_id value
+  to ← address_in p.tx value
   _ ← guard (permits to)
   Some (to, content)
 
@@ -50,15 +50,15 @@ send permits p = do
 
 -- ChannelData where a channel is bound to exactly this peer, and else a Data indication
 abbrev pub message_to_client : Option ℕ → Addr → List ℕ → List ℕ → List ℕ
-message_to_client (Some number) peer transaction_id content = channel_bytes (record { number = number; bytes = content })
-message_to_client None peer transaction_id content = parts_bytes (with_attribute (with_attribute (empty_message data_indication transaction_id) XOR_PEER_ADDRESS (address_value peer transaction_id)) DATA content)
+message_to_client (Some number) peer tx content = channel_bytes (record { number = number; bytes = content })
+message_to_client None peer tx content = parts_bytes (with_attribute (with_attribute (empty_message data_indication tx) XOR_PEER_ADDRESS (address_value peer tx)) DATA content)
 
 -- the data of a peer that has a permission, if what carries it is no longer than a datagram may be
 abbrev pub peer_data : Bool → Option ℕ → Addr → List ℕ → List ℕ → Option (List ℕ)
-peer_data permits number peer transaction_id content = do
+peer_data permits number peer tx content = do
   _ ← guard permits
-  _ ← guard (nat_le (length (message_to_client number peer transaction_id content)) MAX_DATAGRAM)
-  Some (message_to_client number peer transaction_id content)
+  _ ← guard (nat_le (length (message_to_client number peer tx content)) MAX_DATAGRAM)
+  Some (message_to_client number peer tx content)
 
 -- ---- over the live rows
 
@@ -89,6 +89,6 @@ send_from client rows p = do
   to_peer a pair
 
 abbrev pub peer_data_to : ℕ → Addr → List ℕ → Rows → List ℕ → Option Sending
-peer_data_to slot peer transaction_id rows content = do
+peer_data_to slot peer tx rows content = do
   client ← client_at slot rows
-  option_map (ToClient client) (peer_data (has_permission slot peer rows) (channel_of slot peer rows) peer transaction_id content)
+  option_map (ToClient client) (peer_data (has_permission slot peer rows) (channel_of slot peer rows) peer tx content)

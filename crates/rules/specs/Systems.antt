@@ -48,8 +48,8 @@ is_served (Client client) = is_ipv4 client
 is_served (Peer slot peer) = true
 
 abbrev pub if_served : System → System
-if_served system config now transaction_id from rows bytes =
-    if is_served from then system config now transaction_id from rows bytes else no_answer rows
+if_served system config now tx from rows bytes =
+    if is_served from then system config now tx from rows bytes else no_answer rows
 
 -- the configuration with the current nonce
 abbrev pub with_nonce : Config → List ℕ → Config
@@ -66,7 +66,7 @@ outcome_at moment s reply = record { answer = reply.answer; state = record s { r
 
 abbrev pub system_step : System → Config → SystemState → Event → SystemOutcome
 system_step system config s (Datagram given bytes) = outcome_at (moment_of s.greatest given.now) s
-    (if_served system (with_nonce config s.nonce) (moment_of s.greatest given.now) given.transaction_id given.from s.rows bytes)
+    (if_served system (with_nonce config s.nonce) (moment_of s.greatest given.now) given.tx given.from s.rows bytes)
 system_step system config s (Nonce text) = record { answer = None; state = record s { nonce = text } }
 
 -- ---- lists of events

@@ -67,7 +67,7 @@ fn padded(n: usize) -> usize
 
 /// Returns the length of the value of an XOR address.
 fn value_length(peer: &Addr) -> usize
-    ensures length { (transaction_id : List ℕ) → result ≡ length (address_value peer.now transaction_id) }
+    ensures length { (tx : List ℕ) → result ≡ length (address_value peer.now tx) }
     ensures few { result < 21 }
 {
     match peer {
@@ -79,8 +79,8 @@ fn value_length(peer: &Addr) -> usize
 /// Returns the length of what carries `n` bytes of a peer to a client: ChannelData, or a Data indication.
 fn length_to_client(number: Option<u16>, peer: &Addr, n: usize) -> usize
     requires { n < 2 ^ 63 }
-    ensures { (transaction_id content : List ℕ) → length transaction_id ≡ 12 → length content ≡ n
-        → result ≡ length (message_to_client number peer.now transaction_id content) }
+    ensures { (tx content : List ℕ) → length tx ≡ 12 → length content ≡ n
+        → result ≡ length (message_to_client number peer.now tx content) }
 {
     match number {
         Some(_) => 4 + n,
@@ -96,8 +96,8 @@ fn discard_of_peer(
     peer: Addr,
     datagram: &[u8],
 ) -> Option<Discard>
-    ensures { (transaction_id : List ℕ) → length transaction_id ≡ 12
-        → result ≡ discard_in (relayed_if (peer_test slot peer transaction_id (rows_at moment tables.now) datagram.now)) }
+    ensures { (tx : List ℕ) → length tx ≡ 12
+        → result ≡ discard_in (relayed_if (peer_test slot peer tx (rows_at moment tables.now) datagram.now)) }
 {
     let Some(live) = tables.live_at(slot, moment) else {
         return Some(Discard::NoAllocation);
@@ -122,7 +122,7 @@ pub fn discard_by_rules(
     datagram: &[u8],
 ) -> Option<Discard>
     ensures { (config : Config) → result
-        ≡ discard_in (ruled_disposition config moment meta.entry.now.transaction_id meta.entry.now.from tables.now datagram.now) }
+        ≡ discard_in (ruled_disposition config moment meta.entry.now.tx meta.entry.now.from tables.now datagram.now) }
 {
     match meta.from {
         Source::Client(client) => discard_of_client(tables, moment, client, datagram),

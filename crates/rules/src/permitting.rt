@@ -10,6 +10,6 @@ ghost use Rattle.rules.specs.Permitted.{IsPermitted};
 /// States that by the rules data goes from a client to a peer only where its allocation has a permission for the peer's IP
 /// address or a channel that is bound to exactly this peer, and from a peer to a client only where there is a permission for it.
 pub fn law_rules_send_what_is_permitted()
-    ensures { (config : Config) (now : ℕ) (transaction_id : List ℕ) (from : Source) (rows : Rows) (bytes : List ℕ)
-        → IfSome (by_rules config now transaction_id from rows bytes).answer (IsPermitted [] from (rows_at now rows)) }
+    ensures { (config : Config) (now : ℕ) (tx : List ℕ) (from : Source) (rows : Rows) (bytes : List ℕ)
+        → IfSome (by_rules config now tx from rows bytes).answer (IsPermitted [] from (rows_at now rows)) }
 {}

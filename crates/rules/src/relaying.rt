@@ -71,7 +71,7 @@ pub(crate) fn send(tables: &Tables, moment: u64, client: Addr, message: &Message
     if message.value_of(DATA).is_none() {
         return Answer::Nothing(Discard::Incomplete);
     }
-    let Ok(peer) = read_xor_addr(value, &message.transaction_id()) else {
+    let Ok(peer) = read_xor_addr(value, &message.tx()) else {
         return Answer::Nothing(Discard::Incomplete);
     };
     if !live.permitted(peer) {

@@ -150,7 +150,7 @@ pub fn worked_context(side: Side) -> Context {
     Context {
         side,
         source,
-        transaction_id: [0; 12],
+        tx: [0; 12],
     }
 }
 
@@ -174,11 +174,7 @@ fn source(random: &mut Random) -> (Side, Addr) {
 /// Returns a context of either side.
 pub fn context(random: &mut Random) -> Context {
     let (side, source) = source(random);
-    let mut transaction_id = [0; 12];
-    random.fill(&mut transaction_id);
-    Context {
-        side,
-        source,
-        transaction_id,
-    }
+    let mut tx = [0; 12];
+    random.fill(&mut tx);
+    Context { side, source, tx }
 }

@@ -23,7 +23,7 @@ use Rattle.server.specs.Calls.{Call, Received, HasReported}
 use Rattle.server.specs.Turns.{may_send, send_of, outcome_of_send, IsReceived, HasAnswered, IsAnswered, IsTurn, HasTurned, IsUntouched, outcome_of_bytes, ruled_outcome_of_bytes, disposition_of_bytes}
 use Rattle.server.specs.declared.counters.Outcome.{Outcome}
 use Rattle.server.specs.declared.counters.Outcome.TheVariants as outcome
-use Rattle.server.specs.declared.link.LinkError.{LinkError}
+use Rattle.server.specs.declared.link.LinkFault.{LinkFault}
 use Rattle.server.specs.declared.turning.Arrival.{Arrival}
 use Rattle.server.specs.declared.turning.Arrived.{Arrived}
 use Rattle.server.specs.declared.turning.Served.{Served}
@@ -32,7 +32,7 @@ use Rattle.server.specs.declared.turning.Served.{Served}
 
 -- that was sent, or whose send failed
 pub is_answered : (filter : Option Filter) (answer : Option Sending) (sending : Sending) (done : Disposition) (before after : Option (List Call)) (became : Outcome) → answer ≡ Some sending → may_send filter sending ≡ true
-    → ((called : Result (Unit {0}) LinkError) × HasReported before after (send_of sending called ∷ []) × (became ≡ outcome_of_send done called)) → IsAnswered filter answer done before after became
+    → ((called : Result (Unit {0}) LinkFault) × HasReported before after (send_of sending called ∷ []) × (became ≡ outcome_of_send done called)) → IsAnswered filter answer done before after became
 is_answered filter answer sending done before after became is may (called, reported, same) =
     subst (λ o. IsAnswered filter o done before after became) (sym is) (record { sends = send_of sending called ∷ []; reported = reported; answered = inl (may, called, refl, same) })
 
@@ -57,10 +57,10 @@ module _ (filter : Option Filter) (arrival : Arrival) (old : RelayContents) (buf
   ruled_is a = λ i. system_step by_rules old.config (state_of old) (Datagram a.meta (take a.n (room_written old.frame buffer had has i)))
 
   done_is : (a : Arrived) → relay.disposition_of_step with_buffer a.meta a.n ≡ disposition_of_bytes old a.meta (take a.n buffer)
-  done_is a = λ i. disposition_of_datagram old.programs old.config (moment_of old.greatest a.meta.now) a.meta.transaction_id a.meta.from old.rows (take a.n (room_written old.frame buffer had has i))
+  done_is a = λ i. disposition_of_datagram old.programs old.config (moment_of old.greatest a.meta.now) a.meta.tx a.meta.from old.rows (take a.n (room_written old.frame buffer had has i))
 
   -- nothing came, or a receive failed
-  pub takes_none : (new : RelayContents) (before after : Option (List Call)) (former latter : Option (List Event)) (came : Result (Option Arrived) LinkError) (result : Result (Option Served) LinkError)
+  pub takes_none : (new : RelayContents) (before after : Option (List Call)) (former latter : Option (List Event)) (came : Result (Option Arrived) LinkFault) (result : Result (Option Served) LinkFault)
       → IsReceived arrival buffer before after former latter came → HasTurned filter old new buffer came [] result
       → IsTurn filter arrival old new before after former latter result
   takes_none new before after former latter came result received taken = record {
@@ -76,7 +76,7 @@ module _ (filter : Option Filter) (arrival : Arrival) (old : RelayContents) (buf
     taken = taken;
   }
 
-  pub takes : (a : Arrived) (new : RelayContents) (answer : Option Sending) (done : Disposition) (before between after : Option (List Call)) (former latter : Option (List Event)) (became : Outcome) (result : Result (Option Served) LinkError)
+  pub takes : (a : Arrived) (new : RelayContents) (answer : Option Sending) (done : Disposition) (before between after : Option (List Call)) (former latter : Option (List Event)) (became : Outcome) (result : Result (Option Served) LinkFault)
       → IsReceived arrival buffer before between former latter (Ok (Some a))
       → HasStepped with_buffer new (relay.outcome_of with_buffer a.meta a.n) → answer ≡ (relay.outcome_of with_buffer a.meta a.n).answer
       → done ≡ relay.disposition_of_step with_buffer a.meta a.n → IsAnswered filter answer done between after became

@@ -6,14 +6,14 @@ use Rattle.std.specs.List.{range_with_len}
 use Rattle.addresses.specs.declared.address.Family.{Family}
 use Rattle.addresses.specs.declared.address.Family.TheVariants.{Ipv4, Ipv6}
 use Rattle.server.specs.Tokens.{sockets, socket_at}
-use Rattle.server.specs.declared.link.Endpoint.{Endpoint}
-use Rattle.server.specs.declared.link.Endpoint.TheVariants.{Client, Slot}
+use Rattle.server.specs.declared.link.Place.{Place}
+use Rattle.server.specs.declared.link.Place.TheVariants.{Client, Slot}
 
 module _ (slots slots6 : ℕ) where
-  abbrev at4 : ℕ → Endpoint × Family
+  abbrev at4 : ℕ → Place × Family
   at4 slot = (Slot slot, Ipv4)
 
-  abbrev at6 : ℕ → Endpoint × Family
+  abbrev at6 : ℕ → Place × Family
   at6 slot = (Slot slot, Ipv6)
 
   pub at_clients : (token : ℕ) → token ≡ 0 → socket_at slots slots6 token ≡ (Client, Ipv4)

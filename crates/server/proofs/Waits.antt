@@ -9,8 +9,8 @@ use Rattle.addresses.specs.declared.address.Addr.{Addr}
 use Rattle.semantics.specs.declared.limits.TheConstants.{MAX_DATAGRAM}
 use Rattle.server.proofs.Reported.{reported_more, reported_none}
 use Rattle.server.specs.Calls.{Call, Received, HasReported}
-use Rattle.server.specs.declared.link.LinkError.{LinkError}
-use Rattle.server.specs.declared.link.Endpoint.{Endpoint}
+use Rattle.server.specs.declared.link.LinkFault.{LinkFault}
+use Rattle.server.specs.declared.link.Place.{Place}
 use Rattle.server.specs.Ahead.{Waiting, Datagram, Fault, Receive, call_at, waiting_of, waiting_after, is_datagram, IsReceive, AreDatagrams, HasFilled, HasTaken, IsHandedOn}
 use Rattle.server.specs.Filling.{stored_datagram, ending_of, waiting_in, AreWithin, HasReceived, HasReceivedOne, HasFilledSoFar}
 use Rattle.server.specs.declared.ahead.Stored.{Stored}
@@ -97,9 +97,9 @@ room_is : (ys : List ℕ) (end : ℕ) → end + MAX_DATAGRAM ≤ length ys → l
 room_is ys end h = let l = length-drop end ys in length-take-le MAX_DATAGRAM (drop end ys) (omega (arith, l, h))
 
 -- a datagram that came lies where its receive has written it
-module _ (endpoint : Endpoint) (before after : Option (List Call)) (old : List Waiting) (xs ys : List ℕ) (ss : List Stored) (i end : ℕ)
+module _ (endpoint : Place) (before after : Option (List Call)) (old : List Waiting) (xs ys : List ℕ) (ss : List Stored) (i end : ℕ)
     (view : waiting_in xs ss i then.Receive ≡ old) (same : take end ys ≡ take end xs) (within : AreWithin end ss) (handed : i ≤ length ss)
-    (long : end + MAX_DATAGRAM ≤ length ys) (answer result : Result (Option (ℕ × Addr)) LinkError)
+    (long : end + MAX_DATAGRAM ≤ length ys) (answer result : Result (Option (ℕ × Addr)) LinkFault)
     (reported : HasReported before after (Received endpoint (take MAX_DATAGRAM (drop end ys)) result ∷ [])) (is : result ≡ answer) where
   made : Receive
   made = record { buffer = take MAX_DATAGRAM (drop end ys); answer = answer }
@@ -130,7 +130,7 @@ datagrams_push [] r all is = (is, tt)
 datagrams_push (x ∷ rs) r all is = (all.0, datagrams_push rs r all.1 is)
 
 -- a further receive after some
-module _ (endpoint : Endpoint) (before between after : Option (List Call)) (waiting new : List Waiting) (came : Bool)
+module _ (endpoint : Place) (before between after : Option (List Call)) (waiting new : List Waiting) (came : Bool)
     (so_far : HasFilledSoFar endpoint before between waiting) (one : HasReceived endpoint between after waiting new came) where
   more_reported : HasReported before after (map (call_at endpoint) (so_far.datagrams ++ one.receive ∷ []))
   more_reported =
@@ -161,7 +161,7 @@ module _ (endpoint : Endpoint) (before between after : Option (List Call)) (wait
     unfilled = λ some. absurd (some none);
   }
 
-pub filled : (endpoint : Endpoint) (before after : Option (List Call)) (old new : List Waiting) → HasFilledSoFar endpoint before after new → old ≡ [] → HasFilled endpoint before after old new
+pub filled : (endpoint : Place) (before after : Option (List Call)) (old new : List Waiting) → HasFilledSoFar endpoint before after new → old ≡ [] → HasFilled endpoint before after old new
 filled endpoint before after old new so_far none = record {
   datagrams = so_far.datagrams;
   ending = None;
@@ -174,7 +174,7 @@ filled endpoint before after old new so_far none = record {
   unfilled = λ some. absurd (some none);
 }
 
-pub unfilled : (endpoint : Endpoint) (calls : Option (List Call)) (old : List Waiting) → HasFilled endpoint calls calls old old
+pub unfilled : (endpoint : Place) (calls : Option (List Call)) (old : List Waiting) → HasFilled endpoint calls calls old old
 unfilled endpoint calls old = record {
   datagrams = [];
   ending = None;
@@ -185,22 +185,22 @@ unfilled endpoint calls old = record {
   unfilled = λ some. refl;
 }
 
-pub nothing_yet : (endpoint : Endpoint) (calls : Option (List Call)) (new : List Waiting) → new ≡ [] → HasFilledSoFar endpoint calls calls new
+pub nothing_yet : (endpoint : Place) (calls : Option (List Call)) (new : List Waiting) → new ≡ [] → HasFilledSoFar endpoint calls calls new
 nothing_yet endpoint calls new none = record { datagrams = []; each = tt; reported = reported_none calls; waits = none }
 
-pub stops : (endpoint : Endpoint) (before between after : Option (List Call)) (old waiting new : List Waiting) → HasFilledSoFar endpoint before between waiting
+pub stops : (endpoint : Place) (before between after : Option (List Call)) (old waiting new : List Waiting) → HasFilledSoFar endpoint before between waiting
     → HasReceivedOne endpoint between after waiting new false → old ≡ [] → HasFilled endpoint before after old new
 stops endpoint before between after old waiting new so_far (inl (calls, same, came)) none =
     filled endpoint before after old new
     (subst (λ (c : Option (List Call)). HasFilledSoFar endpoint before c new) (sym calls) (subst (λ (l : List Waiting). HasFilledSoFar endpoint before between l) (sym same) so_far)) none
 stops endpoint before between after old waiting new so_far (inr one) none = ends endpoint before between after waiting new false so_far one old none refl
 
-pub goes_on_after : (endpoint : Endpoint) (before between after : Option (List Call)) (waiting new : List Waiting) → HasFilledSoFar endpoint before between waiting
+pub goes_on_after : (endpoint : Place) (before between after : Option (List Call)) (waiting new : List Waiting) → HasFilledSoFar endpoint before between waiting
     → HasReceivedOne endpoint between after waiting new true → HasFilledSoFar endpoint before after new
 goes_on_after endpoint before between after waiting new so_far (inl (calls, same, came)) = absurd (cc came)
 goes_on_after endpoint before between after waiting new so_far (inr one) = goes_on endpoint before between after waiting new true so_far one refl
 
-pub one_more_at_most : (endpoint : Endpoint) (before after : Option (List Call)) (old new : List Waiting) (came : Bool) → HasReceivedOne endpoint before after old new came → length new ≤ length old + 1
+pub one_more_at_most : (endpoint : Place) (before after : Option (List Call)) (old new : List Waiting) (came : Bool) → HasReceivedOne endpoint before after old new came → length new ≤ length old + 1
 one_more_at_most endpoint before after old new came (inl (calls, same, none)) = let l = ap length same in omega (arith, l)
 one_more_at_most endpoint before after old new came (inr one) =
     let l = ap length one.waits in
@@ -209,12 +209,12 @@ one_more_at_most endpoint before after old new came (inr one) =
 
 -- ---- handing on
 
-pub taken_first : (endpoint : Endpoint) (before after : Option (List Call)) (old new : List Waiting) (into now : List ℕ) (result : Result (Option (ℕ × Addr)) LinkError) (w : Waiting) (rest : List Waiting)
+pub taken_first : (endpoint : Place) (before after : Option (List Call)) (old new : List Waiting) (into now : List ℕ) (result : Result (Option (ℕ × Addr)) LinkFault) (w : Waiting) (rest : List Waiting)
     → old ≡ w ∷ rest → new ≡ rest → after ≡ before → IsHandedOn w into now result → HasTaken endpoint before after old new into now result
 taken_first endpoint before after old new into now result w rest is same calls handed =
     subst (λ (l : List Waiting). HasTaken endpoint before after l new into now result) (sym is) (same, calls, handed)
 
-pub taken_none : (endpoint : Endpoint) (before after : Option (List Call)) (old new : List Waiting) (into now : List ℕ) (result : Result (Option (ℕ × Addr)) LinkError)
+pub taken_none : (endpoint : Place) (before after : Option (List Call)) (old new : List Waiting) (into now : List ℕ) (result : Result (Option (ℕ × Addr)) LinkFault)
     → old ≡ [] → new ≡ [] → HasReported before after (Received endpoint now result ∷ []) → HasTaken endpoint before after old new into now result
 taken_none endpoint before after old new into now result is same reported =
     subst (λ (l : List Waiting). HasTaken endpoint before after l new into now result) (sym is) (same, reported)

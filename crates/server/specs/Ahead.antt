@@ -3,8 +3,8 @@ use Rattle.std.specs.Prelude.{◌≡◌, ◌≢◌, ℕ, ◌≤◌, ◌<◌, nat
 use Rattle.addresses.specs.declared.address.Addr.{Addr}
 use Rattle.semantics.specs.declared.limits.TheConstants.{MAX_DATAGRAM}
 use Rattle.server.specs.Calls.{Call, Received, HasReported}
-use Rattle.server.specs.declared.link.LinkError.{LinkError}
-use Rattle.server.specs.declared.link.Endpoint.{Endpoint}
+use Rattle.server.specs.declared.link.LinkFault.{LinkFault}
+use Rattle.server.specs.declared.link.Place.{Place}
 
 -- what waits: a datagram with its source, that nothing more had come, or that a receive failed
 pub data Waiting : Type 0 where
@@ -17,13 +17,13 @@ pub data Waiting : Type 0 where
 -- a receive of a link: the bytes that the buffer has afterwards, and the answer
 pub record Receive : Type 0 where
   pub buffer : List ℕ
-  pub answer : Result (Option (ℕ × Addr)) LinkError
+  pub answer : Result (Option (ℕ × Addr)) LinkFault
 
-abbrev pub call_at : Endpoint → Receive → Call
+abbrev pub call_at : Place → Receive → Call
 call_at endpoint r = Received endpoint r.buffer r.answer
 
 -- a datagram is the first n bytes of the buffer; one that is longer than a datagram may be is a fault
-abbrev pub waiting_after : List ℕ → Result (Option (ℕ × Addr)) LinkError → Waiting
+abbrev pub waiting_after : List ℕ → Result (Option (ℕ × Addr)) LinkFault → Waiting
 waiting_after buffer (Ok (Some (n, from))) = if nat_le n MAX_DATAGRAM then Datagram (take n buffer) from else Fault
 waiting_after buffer (Ok None) = Nothing
 waiting_after buffer (Err fault) = Fault
@@ -51,7 +51,7 @@ IsEnding (Some r) = IsReceive r false
 
 -- Receives at an endpoint, of which each but the last gave a datagram, and the last one maybe nothing or a fault. What they gave
 -- waits, in order. Where something waits already there is none.
-pub record HasFilled (endpoint : Endpoint) (before after : Option (List Call)) (old new : List Waiting) : Type 0 where
+pub record HasFilled (endpoint : Place) (before after : Option (List Call)) (old new : List Waiting) : Type 0 where
   pub datagrams : List Receive
   pub ending : Option Receive
   pub each : AreDatagrams datagrams
@@ -64,7 +64,7 @@ pub record HasFilled (endpoint : Endpoint) (before after : Option (List Call)) (
 
 -- A datagram's bytes are written over the first of a buffer, which is else as before; one that is longer than the buffer is lost,
 -- and counts as a fault.
-abbrev pub IsHandedOn : Waiting → List ℕ → List ℕ → Result (Option (ℕ × Addr)) LinkError → Type 0
+abbrev pub IsHandedOn : Waiting → List ℕ → List ℕ → Result (Option (ℕ × Addr)) LinkFault → Type 0
 IsHandedOn (Datagram bytes from) into now result =
     ((length bytes ≤ length into) × (now ≡ bytes ++ drop (length bytes) into) × (result ≡ Ok (Some (length bytes, from))))
     ⊎ ((length into < length bytes) × (now ≡ into) × IsErr result)
@@ -73,6 +73,6 @@ IsHandedOn Fault into now result = (now ≡ into) × IsErr result
 
 -- The first of what waits is handed on, and no call of the link is made. Where nothing waits, one receive of the link is made, and
 -- its answer is the result.
-abbrev pub HasTaken : Endpoint → Option (List Call) → Option (List Call) → List Waiting → List Waiting → List ℕ → List ℕ → Result (Option (ℕ × Addr)) LinkError → Type 0
+abbrev pub HasTaken : Place → Option (List Call) → Option (List Call) → List Waiting → List Waiting → List ℕ → List ℕ → Result (Option (ℕ × Addr)) LinkFault → Type 0
 HasTaken endpoint before after [] new into now result = (new ≡ []) × HasReported before after (Received endpoint now result ∷ [])
 HasTaken endpoint before after (w ∷ rest) new into now result = (new ≡ rest) × (after ≡ before) × IsHandedOn w into now result

@@ -1,13 +1,13 @@
 -- Meaning. The calls of a link: what each was handed, and what it answered. How calls are reported.
 use Rattle.std.specs.Prelude.{◌≡◌, ℕ, List, ◌++◌, Option, None, Some, Result}
 use Rattle.addresses.specs.declared.address.Addr.{Addr}
-use Rattle.server.specs.declared.link.LinkError.{LinkError}
-use Rattle.server.specs.declared.link.Endpoint.{Endpoint}
+use Rattle.server.specs.declared.link.LinkFault.{LinkFault}
+use Rattle.server.specs.declared.link.Place.{Place}
 
 -- a receive, with the bytes that the buffer has afterwards; and a send
 pub data Call : Type 0 where
-  Received : (endpoint : Endpoint) (buffer : List ℕ) (answer : Result (Option (ℕ × Addr)) LinkError) → Call
-  Sent : (endpoint : Endpoint) (to : Addr) (bytes : List ℕ) (answer : Result (Unit {0}) LinkError) → Call
+  Received : (endpoint : Place) (buffer : List ℕ) (answer : Result (Option (ℕ × Addr)) LinkFault) → Call
+  Sent : (endpoint : Place) (to : Addr) (bytes : List ℕ) (answer : Result (Unit {0}) LinkFault) → Call
 
 -- What reports its calls has reported these after its former ones, or reports no more, as where it has no memory for them. What
 -- doesn't report never begins to.

@@ -10,8 +10,8 @@ use Rattle.server.specs.declared.counters.Outcome.{Outcome}
 use Rattle.server.specs.declared.counters.Outcome.TheVariants as outcome
 use Rattle.credentials.specs.declared.checking.AuthError.TheVariants as auth
 use Rattle.rules.specs.declared.disposition.Disposition.TheVariants.{Relayed, Answered, Discarded}
-use Rattle.server.specs.declared.link.Endpoint.{Endpoint}
-use Rattle.server.specs.declared.link.Endpoint.TheVariants.{Client, Slot}
+use Rattle.server.specs.declared.link.Place.{Place}
+use Rattle.server.specs.declared.link.Place.TheVariants.{Client, Slot}
 use Rattle.control.specs.declared.response.Response.{Response}
 use Rattle.control.specs.declared.response.Response.TheVariants as response
 
@@ -22,7 +22,7 @@ abbrev pub client_kind : List ℕ → Kind
 client_kind [] = Other
 client_kind (b ∷ rest) = if nat_le b 0x3f then Message else if nat_le b 0x4f then ChannelData else Other
 
-abbrev pub datagram_kind : Endpoint → List ℕ → Kind
+abbrev pub datagram_kind : Place → List ℕ → Kind
 datagram_kind Client datagram = client_kind datagram
 datagram_kind (Slot slot) datagram = FromPeer
 

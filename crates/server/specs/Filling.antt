@@ -1,7 +1,7 @@
 -- Internal. What is stored of what was received ahead, and one receive of a filling.
 use Rattle.std.specs.Prelude.{◌≡◌, ℕ, ◌+◌, ◌≤◌, ◌⊎◌, Bool, false, List, [], ◌∷◌, ◌++◌, length, take, drop, map, Option}
 use Rattle.server.specs.Calls.{Call, HasReported}
-use Rattle.server.specs.declared.link.Endpoint.{Endpoint}
+use Rattle.server.specs.declared.link.Place.{Place}
 use Rattle.server.specs.Ahead.{Waiting, Datagram, Nothing, Fault, Receive, call_at, waiting_of, IsReceive, AreDatagrams}
 use Rattle.server.specs.declared.ahead.Stored.{Stored}
 use Rattle.server.specs.declared.ahead.Then.{Then}
@@ -31,19 +31,19 @@ pub record IsAhead (room capacity : ℕ) (datagrams : List Stored) (count end : 
   pub few : TURNS ≤ capacity
 
 -- one receive was made, and what it gave waits after the others
-pub record HasReceived (endpoint : Endpoint) (before after : Option (List Call)) (old new : List Waiting) (came : Bool) : Type 0 where
+pub record HasReceived (endpoint : Place) (before after : Option (List Call)) (old new : List Waiting) (came : Bool) : Type 0 where
   pub receive : Receive
   pub is_receive : IsReceive receive came
   pub reported : HasReported before after (call_at endpoint receive ∷ [])
   pub waits : new ≡ old ++ waiting_of receive ∷ []
 
 -- or no receive was made
-abbrev pub HasReceivedOne : Endpoint → Option (List Call) → Option (List Call) → List Waiting → List Waiting → Bool → Type 0
+abbrev pub HasReceivedOne : Place → Option (List Call) → Option (List Call) → List Waiting → List Waiting → Bool → Type 0
 HasReceivedOne endpoint before after old new came =
     ((after ≡ before) × (new ≡ old) × (came ≡ false)) ⊎ HasReceived endpoint before after old new came
 
 -- what a filling has received so far, where nothing waited
-pub record HasFilledSoFar (endpoint : Endpoint) (before after : Option (List Call)) (new : List Waiting) : Type 0 where
+pub record HasFilledSoFar (endpoint : Place) (before after : Option (List Call)) (new : List Waiting) : Type 0 where
   pub datagrams : List Receive
   pub each : AreDatagrams datagrams
   pub reported : HasReported before after (map (call_at endpoint) datagrams)

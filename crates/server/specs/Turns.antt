@@ -23,9 +23,9 @@ use Rattle.server.specs.declared.counters.Counter.{Counter}
 use Rattle.server.specs.declared.counters.Counter.TheVariants as counter
 use Rattle.server.specs.declared.counters.Outcome.{Outcome}
 use Rattle.server.specs.declared.counters.Outcome.TheVariants as outcome
-use Rattle.server.specs.declared.link.Endpoint.{Endpoint}
-use Rattle.server.specs.declared.link.Endpoint.TheVariants as endpoint
-use Rattle.server.specs.declared.link.LinkError.{LinkError}
+use Rattle.server.specs.declared.link.Place.{Place}
+use Rattle.server.specs.declared.link.Place.TheVariants as endpoint
+use Rattle.server.specs.declared.link.LinkFault.{LinkFault}
 use Rattle.server.specs.declared.turning.Arrival.{Arrival}
 use Rattle.server.specs.declared.turning.Arrived.{Arrived}
 use Rattle.server.specs.declared.turning.Served.{Served}
@@ -34,13 +34,13 @@ use Rattle.tables.specs.Moments.{moment_of}
 -- ---- what comes
 
 -- what comes at the clients' socket is a client's, and what comes at a slot's is a peer's
-abbrev pub source_at : Endpoint → Addr → Source
+abbrev pub source_at : Place → Addr → Source
 source_at endpoint.Client address = source.Client address
 source_at (endpoint.Slot slot) address = source.Peer slot address
 
 abbrev pub meta_at : Arrival → Addr → Meta
 meta_at arrival from =
-    record { now = arrival.now; transaction_id = arrival.transaction_id; from = source_at arrival.endpoint from }
+    record { now = arrival.now; tx = arrival.tx; from = source_at arrival.endpoint from }
 
 -- a datagram of n bytes, the first ones of the buffer
 abbrev pub arrived : Arrival → List ℕ → ℕ → Addr → Arrived
@@ -48,7 +48,7 @@ arrived arrival buffer n from =
     record { meta = meta_at arrival from; n = n; kind = datagram_kind arrival.endpoint (take n buffer) }
 
 -- A fault, nothing, or a datagram, which is recorded; one longer than a datagram may be is a fault.
-abbrev pub HasArrived : Arrival → List ℕ → Result (Option (ℕ × Addr)) LinkError → List Event → Result (Option Arrived) LinkError → Type 0
+abbrev pub HasArrived : Arrival → List ℕ → Result (Option (ℕ × Addr)) LinkFault → List Event → Result (Option Arrived) LinkFault → Type 0
 HasArrived arrival buffer (Err fault) recorded result = (recorded ≡ []) × (result ≡ Err fault)
 HasArrived arrival buffer (Ok None) recorded result = (recorded ≡ []) × (result ≡ Ok None)
 HasArrived arrival buffer (Ok (Some (n, from))) recorded result =
@@ -56,8 +56,8 @@ HasArrived arrival buffer (Ok (Some (n, from))) recorded result =
     ⊎ ((MAX_DATAGRAM < n) × (recorded ≡ []) × IsErr result)
 
 -- one receive at the endpoint, which leaves these bytes in the buffer, and what is recorded of it
-pub record IsReceived (arrival : Arrival) (buffer : List ℕ) (before after : Option (List Call)) (former latter : Option (List Event)) (result : Result (Option Arrived) LinkError) : Type 0 where
-  pub received : Result (Option (ℕ × Addr)) LinkError
+pub record IsReceived (arrival : Arrival) (buffer : List ℕ) (before after : Option (List Call)) (former latter : Option (List Event)) (result : Result (Option Arrived) LinkFault) : Type 0 where
+  pub received : Result (Option (ℕ × Addr)) LinkFault
   pub recorded : List Event
   pub reported : HasReported before after (Received arrival.endpoint buffer received ∷ [])
   pub records : HasReported former latter recorded
@@ -66,7 +66,7 @@ pub record IsReceived (arrival : Arrival) (buffer : List ℕ) (before after : Op
 -- ---- what is sent
 
 -- to a peer from the socket of its slot, and to a client from the clients'
-abbrev pub send_of : Sending → Result (Unit {0}) LinkError → Call
+abbrev pub send_of : Sending → Result (Unit {0}) LinkFault → Call
 send_of (ToPeer slot peer bytes) answer = Sent (endpoint.Slot slot) peer bytes answer
 send_of (ToClient client bytes) answer = Sent endpoint.Client client bytes answer
 
@@ -81,7 +81,7 @@ may_send filter (ToPeer slot peer bytes) = may_reach filter peer
 may_send filter (ToClient client bytes) = true
 
 -- what becomes of a datagram with which this was done, and whose answer was sent or wasn't
-abbrev pub outcome_of_send : Disposition → Result (Unit {0}) LinkError → Outcome
+abbrev pub outcome_of_send : Disposition → Result (Unit {0}) LinkFault → Outcome
 outcome_of_send done (Ok sent) = outcome.Done done
 outcome_of_send done (Err fault) = outcome.SendFailed
 
@@ -90,7 +90,7 @@ abbrev pub HasAnswered : Option Filter → Option Sending → Disposition → Li
 HasAnswered filter None done sends became = (sends ≡ []) × (became ≡ outcome.Done done)
 HasAnswered filter (Some sending) done sends became =
     ((may_send filter sending ≡ true)
-    × (answer : Result (Unit {0}) LinkError) × (sends ≡ send_of sending answer ∷ []) × (became ≡ outcome_of_send done answer))
+    × (answer : Result (Unit {0}) LinkFault) × (sends ≡ send_of sending answer ∷ []) × (became ≡ outcome_of_send done answer))
     ⊎ ((may_send filter sending ≡ false) × (sends ≡ []) × (became ≡ outcome.Denied))
 
 -- the same, as the link reports it
@@ -119,7 +119,7 @@ ruled_outcome_of_bytes r given bytes = system_step by_rules r.config (state_of r
 -- what is done with it
 abbrev pub disposition_of_bytes : RelayContents → Meta → List ℕ → Disposition
 disposition_of_bytes r given bytes =
-    disposition_of_datagram r.programs r.config (moment_of r.greatest given.now) given.transaction_id given.from r.rows bytes
+    disposition_of_datagram r.programs r.config (moment_of r.greatest given.now) given.tx given.from r.rows bytes
 
 -- the relay has stepped; with the shipped programs the step is the rules', and with any programs it harms nobody
 pub record HasDecided (old new : RelayContents) (given : Meta) (bytes : List ℕ) : Type 0 where
@@ -130,33 +130,33 @@ pub record HasDecided (old new : RelayContents) (given : Meta) (bytes : List ℕ
 -- ---- a turn
 
 -- a datagram was decided and answered
-pub record HasHandled (filter : Option Filter) (old new : RelayContents) (a : Arrived) (bytes : List ℕ) (sends : List Call) (result : Result (Option Served) LinkError) : Type 0 where
+pub record HasHandled (filter : Option Filter) (old new : RelayContents) (a : Arrived) (bytes : List ℕ) (sends : List Call) (result : Result (Option Served) LinkFault) : Type 0 where
   pub decided : HasDecided old new a.meta bytes
   pub became : Outcome
   pub answered : HasAnswered filter (outcome_of_bytes old a.meta bytes).answer (disposition_of_bytes old a.meta bytes) sends became
   pub served : result ≡ Ok (Some (record { from = a.meta.from; kind = a.kind; outcome = became }))
 
 -- a fault, nothing, or a datagram
-abbrev pub HasTurned : Option Filter → RelayContents → RelayContents → List ℕ → Result (Option Arrived) LinkError → List Call → Result (Option Served) LinkError → Type 0
+abbrev pub HasTurned : Option Filter → RelayContents → RelayContents → List ℕ → Result (Option Arrived) LinkFault → List Call → Result (Option Served) LinkFault → Type 0
 HasTurned filter old new buffer (Err fault) sends result = IsUntouched old new sends × (result ≡ Err fault)
 HasTurned filter old new buffer (Ok None) sends result = IsUntouched old new sends × (result ≡ Ok None)
 HasTurned filter old new buffer (Ok (Some a)) sends result = HasHandled filter old new a (take a.n buffer) sends result
 
 -- One receive at the endpoint, into the whole room of the relay; a record of what came; and what follows from it.
-pub record IsTurn (filter : Option Filter) (arrival : Arrival) (old new : RelayContents) (before after : Option (List Call)) (former latter : Option (List Event)) (result : Result (Option Served) LinkError) : Type 0 where
-  pub received : Result (Option (ℕ × Addr)) LinkError
+pub record IsTurn (filter : Option Filter) (arrival : Arrival) (old new : RelayContents) (before after : Option (List Call)) (former latter : Option (List Event)) (result : Result (Option Served) LinkFault) : Type 0 where
+  pub received : Result (Option (ℕ × Addr)) LinkFault
   pub buffer : List ℕ
   pub room : length buffer ≡ MAX_DATAGRAM
   pub sends : List Call
   pub reported : HasReported before after (Received arrival.endpoint buffer received ∷ sends)
   pub recorded : List Event
   pub records : HasReported former latter recorded
-  pub came : Result (Option Arrived) LinkError
+  pub came : Result (Option Arrived) LinkFault
   pub arrived : HasArrived arrival buffer received recorded came
   pub taken : HasTurned filter old new buffer came sends result
 
 -- a datagram is counted as one of its kind that came, with what became of it, and a receive that failed as that
-abbrev pub HasCountedTurn : Result (Option Served) LinkError → (Counter → ℕ) → (Counter → ℕ) → Type 0
+abbrev pub HasCountedTurn : Result (Option Served) LinkFault → (Counter → ℕ) → (Counter → ℕ) → Type 0
 HasCountedTurn (Err fault) old new = HasRaised counter.ReceiveFaults old new
 HasCountedTurn (Ok None) old new = (c : Counter) → new c ≡ old c
 HasCountedTurn (Ok (Some served)) old new = HasCounted served.kind served.outcome old new

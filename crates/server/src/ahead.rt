@@ -5,7 +5,7 @@ ghost use Rattle.server.specs.Calls.{Received, HasReported};
 ghost use Rattle.server.specs.Ahead.{Datagram, IsHandedOn, HasTaken, HasFilled};
 ghost use Rattle.server.specs.Filling.{HasReceivedOne};
 
-use crate::link::{Endpoint, Link, LinkError};
+use crate::link::{Link, LinkFault, Place};
 use attributes::Addr;
 use semantics::MAX_DATAGRAM;
 use std::alloc::{AllocError, Global};
@@ -72,10 +72,10 @@ impl Model for Ahead {
 #[inline(always)]
 fn receive_at<L: Link>(
     link: &mut L,
-    endpoint: Endpoint,
+    endpoint: Place,
     bytes: &mut [u8],
     start: usize,
-) -> Result<Receipt, LinkError>
+) -> Result<Receipt, LinkFault>
     requires { start + MAX_DATAGRAM ≤ length bytes.old }
     ensures front { take start bytes.new ≡ take start bytes.old }
     ensures reported { HasReported (L.calls link.old) (L.calls link.new) (Received endpoint (take MAX_DATAGRAM (drop start bytes.new)) result ∷ []) }
@@ -88,12 +88,12 @@ fn receive_at<L: Link>(
 /// # Errors
 /// Where it is longer than `into`, which stays as it is.
 #[inline(always)]
-fn hand_on(bytes: &[u8], from: Addr, into: &mut [u8]) -> Result<Receipt, LinkError>
+fn hand_on(bytes: &[u8], from: Addr, into: &mut [u8]) -> Result<Receipt, LinkFault>
     ensures { IsHandedOn (Datagram bytes.now from) into.old into.new result }
 {
     let n = bytes.len();
     if n > into.len() {
-        return Err(LinkError);
+        return Err(LinkFault);
     }
     into[..n].copy_from_slice(bytes);
     Ok(Some((n, from)))
@@ -144,7 +144,7 @@ impl Ahead {
     }
 
     /// Makes one more receive at an endpoint, if another one is to be made and there is room. Returns whether a datagram came.
-    fn receive_one<L: Link>(&mut self, link: &mut L, endpoint: Endpoint) -> bool
+    fn receive_one<L: Link>(&mut self, link: &mut L, endpoint: Place) -> bool
         ensures one { HasReceivedOne endpoint (L.calls link.old) (L.calls link.new) self.old self.new result }
         ensures more { length self.new ≤ length self.old + 1 }
     {
@@ -174,7 +174,7 @@ impl Ahead {
 
     /// Receives at an endpoint until nothing comes, a receive fails, or there is no room for another datagram. Where something
     /// waits already, no receive is made.
-    pub fn fill<L: Link>(&mut self, link: &mut L, endpoint: Endpoint)
+    pub fn fill<L: Link>(&mut self, link: &mut L, endpoint: Place)
         ensures filled { HasFilled endpoint (L.calls link.old) (L.calls link.new) self.old self.new }
         ensures few { self.old ≡ [] → length self.new ≤ 64 }
     {
@@ -198,9 +198,9 @@ impl Ahead {
     pub fn receive<L: Link>(
         &mut self,
         link: &mut L,
-        endpoint: Endpoint,
+        endpoint: Place,
         into: &mut [u8],
-    ) -> Result<Receipt, LinkError>
+    ) -> Result<Receipt, LinkFault>
         ensures { HasTaken endpoint (L.calls link.old) (L.calls link.new) self.old self.new into.old into.new result }
     {
         if self.count < self.datagrams.len() {
@@ -212,7 +212,7 @@ impl Ahead {
         match mem::replace(&mut self.then, Then::Receive) {
             Then::Receive => link.receive(endpoint, into),
             Then::Nothing => Ok(None),
-            Then::Fault => Err(LinkError),
+            Then::Fault => Err(LinkFault),
         }
     }
 }

@@ -4,7 +4,7 @@ ghost use Rattle.std.specs.Prelude.{◌≡◌, ◌<◌};
 ghost use Rattle.server.specs.Counters.{datagram_kind, arrival_counter, outcome_counter, response_counter, HasRaised, HasCounted};
 ghost use Rattle.server.specs.CounterValues.{kind_index, reason_index, counter_index, counter_value};
 
-use crate::link::Endpoint;
+use crate::link::Place;
 use control::Response;
 use credentials::AuthError;
 use rules::{Discard, Disposition};
@@ -101,10 +101,10 @@ pub struct Counters {
 impl Kind {
     /// Returns what a datagram is that came at an endpoint.
     #[inline(always)]
-    pub fn of(endpoint: Endpoint, datagram: &[u8]) -> Kind
+    pub fn of(endpoint: Place, datagram: &[u8]) -> Kind
         ensures { result ≡ datagram_kind endpoint datagram.now }
     {
-        if let Endpoint::Slot(_) = endpoint {
+        if let Place::Slot(_) = endpoint {
             return Kind::FromPeer;
         }
         match datagram.first() {

@@ -20,7 +20,7 @@ mod turning;
 pub use ahead::{Ahead, ROOM, Receipt, TURNS};
 pub use counters::{Counter, Counters, KINDS, Kind, Outcome, REASONS};
 pub use laws::{law_each_datagram_is_counted_once, law_rounds_are_fair};
-pub use link::{Endpoint, Link, LinkError};
+pub use link::{Link, LinkFault, Place};
 pub use moments::Moments;
 pub use nonce::draw_nonce;
 pub use ports::Ports;

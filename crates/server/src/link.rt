@@ -7,7 +7,7 @@ use attributes::Addr;
 
 /// Where a datagram comes in, and goes out.
 #[derive(Clone, Copy, Debug, PartialEq, Eq)]
-pub enum Endpoint {
+pub enum Place {
     /// The relay's own address, which clients send to.
     Client,
     /// The relayed address of a slot, which peers send to.
@@ -16,7 +16,7 @@ pub enum Endpoint {
 
 /// A receive or a send that failed.
 #[derive(Clone, Copy, Debug, PartialEq, Eq)]
-pub struct LinkError;
+pub struct LinkFault;
 
 /// What datagrams come from and go to, as the sockets of a server.
 pub trait Link {
@@ -30,15 +30,15 @@ pub trait Link {
     /// Where the receive fails.
     fn receive(
         &mut self,
-        endpoint: Endpoint,
+        endpoint: Place,
         into: &mut [u8],
-    ) -> Result<Option<(usize, Addr)>, LinkError>
+    ) -> Result<Option<(usize, Addr)>, LinkFault>
         ensures { HasReported (calls self.old) (calls self.new) (Received endpoint into.new result ∷ []) };
 
     /// Sends a datagram from an endpoint to an address.
     ///
     /// # Errors
     /// Where the send fails: the datagram wasn't sent whole.
-    fn send(&mut self, endpoint: Endpoint, to: Addr, bytes: &[u8]) -> Result<(), LinkError>
+    fn send(&mut self, endpoint: Place, to: Addr, bytes: &[u8]) -> Result<(), LinkFault>
         ensures { HasReported (calls self.old) (calls self.new) (Sent endpoint to bytes.now result ∷ []) };
 }

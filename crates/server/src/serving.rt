@@ -3,7 +3,7 @@
 ghost use Rattle.server.specs.Serving.{IsServed};
 
 use crate::counters::Outcome;
-use crate::link::{Endpoint, Link, LinkError};
+use crate::link::{Link, LinkFault, Place};
 use crate::recorder::Unrecorded;
 use crate::turning::{Arrival, Served, take};
 use relay::{Disposition, Relay};
@@ -30,19 +30,15 @@ pub enum ServeError {
 pub fn serve_once<L: Link>(
     relay: &mut Relay,
     link: &mut L,
-    endpoint: Endpoint,
+    endpoint: Place,
     now: u64,
-    transaction_id: [u8; 12],
+    tx: [u8; 12],
 ) -> Result<Option<Disposition>, ServeError>
-    ensures { IsServed endpoint now transaction_id relay.old relay.new (L.calls link.old) (L.calls link.new) result }
+    ensures { IsServed endpoint now tx relay.old relay.new (L.calls link.old) (L.calls link.new) result }
 {
-    let arrival = Arrival {
-        endpoint,
-        now,
-        transaction_id,
-    };
+    let arrival = Arrival { endpoint, now, tx };
     match take(relay, link, &mut Unrecorded, &None, arrival) {
-        Err(LinkError) => Err(ServeError::Receive),
+        Err(LinkFault) => Err(ServeError::Receive),
         Ok(None) => Ok(None),
         Ok(Some(Served { outcome, .. })) => match outcome {
             Outcome::Done(disposition) => Ok(Some(disposition)),

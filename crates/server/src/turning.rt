@@ -5,10 +5,10 @@ ghost use Rattle.events.specs.Actions.{sending_of};
 ghost use Rattle.server.specs.Calls.{Sent, HasReported};
 ghost use Rattle.server.specs.CounterValues.{counter_value};
 ghost use Rattle.server.specs.Turns.{IsReceived, source_at, may_reach, outcome_of_send, IsAnswered, IsTurn, HasCountedTurn};
-ghost use Rattle.server.specs.declared.link.LinkError.{LinkError};
+ghost use Rattle.server.specs.declared.link.LinkFault.{LinkFault};
 
 use crate::counters::{Counters, Kind, Outcome};
-use crate::link::{Endpoint, Link, LinkError};
+use crate::link::{Link, LinkFault, Place};
 use crate::recorder::Recorder;
 use attributes::Addr;
 use events::{Action, Meta, Source};
@@ -19,10 +19,11 @@ use semantics::MAX_DATAGRAM;
 /// Where a datagram may have come, when, and the transaction id for an indication about it.
 #[derive(Clone, Copy)]
 pub struct Arrival {
-    pub endpoint: Endpoint,
+    pub endpoint: Place,
     /// Whole seconds since 1970.
     pub now: u64,
-    pub transaction_id: [u8; 12],
+    /// The transaction id for an indication about it.
+    pub tx: [u8; 12],
 }
 
 /// A datagram that came, and what became of it.
@@ -46,12 +47,12 @@ pub(crate) struct Arrived {
 }
 
 /// Returns the source of what comes from an address at an endpoint.
-pub fn source_at(endpoint: Endpoint, address: Addr) -> Source
+pub fn source_at(endpoint: Place, address: Addr) -> Source
     ensures { result ≡ source_at endpoint address }
 {
     match endpoint {
-        Endpoint::Client => Source::Client(address),
-        Endpoint::Slot(slot) => Source::Peer {
+        Place::Client => Source::Client(address),
+        Place::Slot(slot) => Source::Peer {
             slot,
             addr: address,
         },
@@ -65,27 +66,23 @@ fn receive<L: Link, R: Recorder>(
     link: &mut L,
     recorder: &mut R,
     arrival: Arrival,
-) -> Result<Option<Arrived>, LinkError>
+) -> Result<Option<Arrived>, LinkFault>
     requires { length room.old ≡ MAX_DATAGRAM }
     ensures received { IsReceived arrival room.new (L.calls link.old) (L.calls link.new)
         (R.events recorder.old) (R.events recorder.new) result }
     ensures room { length room.new ≡ MAX_DATAGRAM }
     ensures short { IfOk result (λ o. IfSome o (λ a. a.n ≤ MAX_DATAGRAM)) }
 {
-    let Arrival {
-        endpoint,
-        now,
-        transaction_id,
-    } = arrival;
+    let Arrival { endpoint, now, tx } = arrival;
     let Some((n, address)) = link.receive(endpoint, room)? else {
         return Ok(None);
     };
     if n > MAX_DATAGRAM {
-        return Err(LinkError);
+        return Err(LinkFault);
     }
     let meta = Meta {
         now,
-        transaction_id,
+        tx,
         from: source_at(endpoint, address),
     };
     let datagram = &room[..n];
@@ -109,18 +106,18 @@ fn may_reach(filter: &Option<PeerFilter>, peer: &Addr) -> bool
 #[inline(always)]
 fn send_from<L: Link>(
     link: &mut L,
-    endpoint: Endpoint,
+    endpoint: Place,
     to: Addr,
     bytes: &[u8],
     done: Disposition,
 ) -> Outcome
-    ensures { (answer : Result (Unit {0}) LinkError)
+    ensures { (answer : Result (Unit {0}) LinkFault)
         × HasReported (L.calls link.old) (L.calls link.new) (Sent endpoint to bytes.now answer ∷ [])
         × (result ≡ outcome_of_send done answer) }
 {
     match link.send(endpoint, to, bytes) {
         Ok(()) => Outcome::Done(done),
-        Err(LinkError) => Outcome::SendFailed,
+        Err(LinkFault) => Outcome::SendFailed,
     }
 }
 
@@ -140,10 +137,10 @@ fn answer<L: Link>(
             if !may_reach(filter, &peer) {
                 return Outcome::Denied;
             }
-            send_from(link, Endpoint::Slot(slot), peer, bytes, done)
+            send_from(link, Place::Slot(slot), peer, bytes, done)
         }
         Action::ToClient { client, bytes } => {
-            send_from(link, Endpoint::Client, client, bytes, done)
+            send_from(link, Place::Client, client, bytes, done)
         }
     }
 }
@@ -160,7 +157,7 @@ pub(crate) fn take<L: Link, R: Recorder>(
     recorder: &mut R,
     filter: &Option<PeerFilter>,
     arrival: Arrival,
-) -> Result<Option<Served>, LinkError>
+) -> Result<Option<Served>, LinkFault>
     ensures { IsTurn filter.now arrival relay.old relay.new (L.calls link.old) (L.calls link.new)
         (R.events recorder.old) (R.events recorder.new) result }
 {
@@ -191,7 +188,7 @@ pub fn turn<L: Link, R: Recorder>(
     filter: &Option<PeerFilter>,
     counters: &mut Counters,
     arrival: Arrival,
-) -> Result<Option<Served>, LinkError>
+) -> Result<Option<Served>, LinkFault>
     ensures taken { IsTurn filter.now arrival relay.old relay.new (L.calls link.old) (L.calls link.new)
         (R.events recorder.old) (R.events recorder.new) result }
     ensures counted { HasCountedTurn result (counter_value counters.old) (counter_value counters.new) }
@@ -200,7 +197,7 @@ pub fn turn<L: Link, R: Recorder>(
     match taken {
         Ok(Some(served)) => counters.count(served.kind, served.outcome),
         Ok(None) => {}
-        Err(LinkError) => counters.fault(),
+        Err(LinkFault) => counters.fault(),
     }
     taken
 }

@@ -4,7 +4,7 @@ use crate::udp::{SocketOptions, bind, buffer_of, receive};
 use attributes::{Addr, Family};
 use mio::net::UdpSocket;
 use mio::{Interest, Poll, Registry, Token};
-use server::{Ahead, Endpoint, Link, LinkError, Ports, Receipt, socket_of};
+use server::{Ahead, Link, LinkFault, Place, Ports, Receipt, socket_of};
 use std::alloc::{AllocError, Global};
 use std::io::{self, ErrorKind};
 use std::net::{IpAddr, Ipv4Addr, Ipv6Addr, Net, SocketAddr, SocketAddrV4, SocketAddrV6};
@@ -181,14 +181,14 @@ impl EndpointSockets {
     }
 
     /// Returns the socket of a family at an endpoint. That of clients is of IPv4.
-    fn at(&self, endpoint: Endpoint, family: Family) -> Result<&UdpSocket, LinkError> {
+    fn at(&self, endpoint: Place, family: Family) -> Result<&UdpSocket, LinkFault> {
         let socket = match (endpoint, family) {
-            (Endpoint::Client, Family::Ipv4) => Some(&self.client),
-            (Endpoint::Client, Family::Ipv6) => None,
-            (Endpoint::Slot(slot), Family::Ipv4) => self.slots.get(slot),
-            (Endpoint::Slot(slot), Family::Ipv6) => self.slots6.get(slot),
+            (Place::Client, Family::Ipv4) => Some(&self.client),
+            (Place::Client, Family::Ipv6) => None,
+            (Place::Slot(slot), Family::Ipv4) => self.slots.get(slot),
+            (Place::Slot(slot), Family::Ipv6) => self.slots6.get(slot),
         };
-        socket.ok_or(LinkError)
+        socket.ok_or(LinkFault)
     }
 }
 
@@ -241,26 +241,26 @@ impl Sockets {
 
     /// Chooses a socket by its token, and returns its endpoint. The datagrams of a slot are received at the socket that was
     /// chosen last.
-    pub fn choose(&mut self, token: usize) -> Endpoint {
+    pub fn choose(&mut self, token: usize) -> Place {
         let (endpoint, family) = socket_of(token, self.endpoints.slots.len());
         self.endpoints.family = family;
         endpoint
     }
 
     /// Receives ahead at an endpoint.
-    pub fn receive_ahead(&mut self, endpoint: Endpoint) {
+    pub fn receive_ahead(&mut self, endpoint: Place) {
         self.ahead.fill(&mut self.endpoints, endpoint);
     }
 }
 
 impl Link for EndpointSockets {
     #[inline(always)]
-    fn receive(&mut self, endpoint: Endpoint, into: &mut [u8]) -> Result<Receipt, LinkError> {
+    fn receive(&mut self, endpoint: Place, into: &mut [u8]) -> Result<Receipt, LinkFault> {
         receive(self.at(endpoint, self.family)?, into)
     }
 
     /// Sends a datagram from an endpoint. One that would have to wait, or isn't sent whole, is a fault.
-    fn send(&mut self, endpoint: Endpoint, to: Addr, bytes: &[u8]) -> Result<(), LinkError> {
+    fn send(&mut self, endpoint: Place, to: Addr, bytes: &[u8]) -> Result<(), LinkFault> {
         let (family, to) = match to {
             Addr::V4 { ip, port } => {
                 let to = SocketAddrV4::new(Ipv4Addr::from(ip), port);
@@ -273,19 +273,19 @@ impl Link for EndpointSockets {
         };
         match self.at(endpoint, family)?.send_to(bytes, to) {
             Ok(n) if n == bytes.len() => Ok(()),
-            _ => Err(LinkError),
+            _ => Err(LinkFault),
         }
     }
 }
 
 impl Link for Sockets {
     #[inline(always)]
-    fn receive(&mut self, endpoint: Endpoint, into: &mut [u8]) -> Result<Receipt, LinkError> {
+    fn receive(&mut self, endpoint: Place, into: &mut [u8]) -> Result<Receipt, LinkFault> {
         self.ahead.receive(&mut self.endpoints, endpoint, into)
     }
 
     #[inline(always)]
-    fn send(&mut self, endpoint: Endpoint, to: Addr, bytes: &[u8]) -> Result<(), LinkError> {
+    fn send(&mut self, endpoint: Place, to: Addr, bytes: &[u8]) -> Result<(), LinkFault> {
         self.endpoints.send(endpoint, to, bytes)
     }
 }

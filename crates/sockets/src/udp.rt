@@ -7,7 +7,7 @@ use attributes::Addr;
 use libc::net as c;
 use mio::net::UdpSocket;
 use os::FromRawFd;
-use server::{LinkError, Receipt};
+use server::{LinkFault, Receipt};
 use std::io::{self, ErrorKind};
 use std::net::{Net, SocketAddr, SocketAddrV4, SocketAddrV6};
 use std::os::fd::{AsRawFd, OwnedFd};
@@ -149,10 +149,10 @@ fn addr_of(address: SocketAddr) -> Addr {
 
 /// Receives a datagram at a socket, if one has come.
 #[inline(always)]
-pub(crate) fn receive(socket: &UdpSocket, into: &mut [u8]) -> Result<Receipt, LinkError> {
+pub(crate) fn receive(socket: &UdpSocket, into: &mut [u8]) -> Result<Receipt, LinkFault> {
     match socket.recv_from(into) {
         Ok((n, from)) => Ok(Some((n, addr_of(from)))),
         Err(error) if error.kind() == ErrorKind::WouldBlock => Ok(None),
-        Err(_) => Err(LinkError),
+        Err(_) => Err(LinkFault),
     }
 }

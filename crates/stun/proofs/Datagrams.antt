@@ -61,7 +61,7 @@ accepted_has_parts bytes small is =
     record {
       are_parts = record {
         kind = is.header_is.kind;
-        transaction_id = length-take-le 12 (drop 8 bytes) (omega (arith, is.header_is.long, length-drop 8 bytes));
+        tx = length-take-le 12 (drop 8 bytes) (omega (arith, is.header_is.long, length-drop 8 bytes));
         attributes = is.attributes.padded;
         short = omega (arith, body_length, number_small bytes (omega (arith, is.header_is.long)) small);
       };
@@ -71,15 +71,15 @@ accepted_has_parts bytes small is =
 -- ---- a datagram that has parts has those that the reader finds, and is accepted
 
 pub body_is : (p : Parts) → AreParts p → drop 20 (parts_bytes p) ≡ attributes_bytes p.attributes
-body_is p are = piece_drop p.transaction_id (attributes_bytes p.attributes) 12 (sym are.transaction_id)
+body_is p are = piece_drop p.tx (attributes_bytes p.attributes) 12 (sym are.tx)
 
 pub parts_are : (bytes : List ℕ) (p : Parts) → AreParts p → bytes ≡ parts_bytes p → parts_in bytes ≡ p
 parts_are bytes p are spelled =
     let x = attributes_bytes p.attributes in
-    let kind_is : number_at 2 0 (parts_bytes p) ≡ p.kind = big_number-reads_back 2 p.kind (big_bytes 2 (length x) ++ (big_bytes 4 magic_cookie ++ (p.transaction_id ++ x))) (omega (arith, are.kind)) in
-    let id_is : take 12 (drop 8 (parts_bytes p)) ≡ p.transaction_id = piece_take p.transaction_id x 12 (sym are.transaction_id) in
+    let kind_is : number_at 2 0 (parts_bytes p) ≡ p.kind = big_number-reads_back 2 p.kind (big_bytes 2 (length x) ++ (big_bytes 4 magic_cookie ++ (p.tx ++ x))) (omega (arith, are.kind)) in
+    let id_is : take 12 (drop 8 (parts_bytes p)) ≡ p.tx = piece_take p.tx x 12 (sym are.tx) in
     let attributes_is : attributes_in (drop 20 (parts_bytes p)) ≡ p.attributes = attributes_are (drop 20 (parts_bytes p)) p.attributes are.attributes (body_is p are) in
-    ap parts_in spelled ∙ (λ i. record { kind = kind_is i; transaction_id = id_is i; attributes = attributes_is i })
+    ap parts_in spelled ∙ (λ i. record { kind = kind_is i; tx = id_is i; attributes = attributes_is i })
 
 fours_more : (n k m : ℕ) → m % 4 ≡ 0 → k ≡ 4 + n + padding_count n + m → k % 4 ≡ 0
 fours_more n k m e is = omega arith
@@ -90,13 +90,13 @@ fours (a ∷ list) all =
     fours_more (length a.value) (length (attributes_bytes (a ∷ list))) (length (attributes_bytes list)) (fours list all.1) (length_of_attribute a (attributes_bytes list) all.0)
 
 pub length_of_parts : (p : Parts) → AreParts p → length (parts_bytes p) ≡ 20 + length (attributes_bytes p.attributes)
-length_of_parts p are = omega (arith, length-append p.transaction_id (attributes_bytes p.attributes), are.transaction_id)
+length_of_parts p are = omega (arith, length-append p.tx (attributes_bytes p.attributes), are.tx)
 
 pub parts_are_accepted : (p : Parts) → AreParts p → IsAccepted (parts_bytes p)
 parts_are_accepted p are =
     let x = attributes_bytes p.attributes in
-    let kind_is : number_at 2 0 (parts_bytes p) ≡ p.kind = big_number-reads_back 2 p.kind (big_bytes 2 (length x) ++ (big_bytes 4 magic_cookie ++ (p.transaction_id ++ x))) (omega (arith, are.kind)) in
-    let length_is : number_at 2 2 (parts_bytes p) ≡ length x = big_number-reads_back 2 (length x) (big_bytes 4 magic_cookie ++ (p.transaction_id ++ x)) are.short in
+    let kind_is : number_at 2 0 (parts_bytes p) ≡ p.kind = big_number-reads_back 2 p.kind (big_bytes 2 (length x) ++ (big_bytes 4 magic_cookie ++ (p.tx ++ x))) (omega (arith, are.kind)) in
+    let length_is : number_at 2 2 (parts_bytes p) ≡ length x = big_number-reads_back 2 (length x) (big_bytes 4 magic_cookie ++ (p.tx ++ x)) are.short in
     record {
       header_is = record {
         long = omega (arith, length_of_parts p are);

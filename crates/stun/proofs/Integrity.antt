@@ -131,10 +131,10 @@ after_front [] f e = absurd cc
 after_front (a ∷ list) f e = front_step (a.kind == message_integrity) a list (before_first list) f (after_front list) e
 
 abbrev header_of : Parts → List ℕ
-header_of p = header p.kind (length (attributes_bytes p.attributes)) p.transaction_id
+header_of p = header p.kind (length (attributes_bytes p.attributes)) p.tx
 
 header_length : (p : Parts) → AreParts p → length (header_of p) ≡ 20
-header_length p are = omega (arith, are.transaction_id)
+header_length p are = omega (arith, are.tx)
 
 front_is : (p : Parts) (f : List PaddedAttribute) → AreParts p → before_first p.attributes ≡ Some f
     → (take (20 + bytes_count f) (parts_bytes p) ≡ header_of p ++ attributes_bytes f) × (20 + bytes_count f ≤ length (parts_bytes p))

@@ -29,14 +29,14 @@ all_padded_if (a ∷ rest) h = let two = and_parts (is_padded a) (list_all is_pa
 
 are_parts_if : (p : Parts) → are_parts p ≡ true → AreParts p
 are_parts_if p h =
-    let last = and_parts (nat_lt p.kind 0x4000 && (length p.transaction_id == 12) && list_all is_padded p.attributes) (nat_lt (length (attributes_bytes p.attributes)) 0x10000) h in
-    let third = and_parts (nat_lt p.kind 0x4000 && (length p.transaction_id == 12)) (list_all is_padded p.attributes) last.0 in
-    let first = and_parts (nat_lt p.kind 0x4000) (length p.transaction_id == 12) third.0 in
-    record { kind = ltb-true _ _ first.0; transaction_id = eqb-true _ _ first.1; attributes = all_padded_if p.attributes third.1; short = ltb-true _ _ last.1 }
+    let last = and_parts (nat_lt p.kind 0x4000 && (length p.tx == 12) && list_all is_padded p.attributes) (nat_lt (length (attributes_bytes p.attributes)) 0x10000) h in
+    let third = and_parts (nat_lt p.kind 0x4000 && (length p.tx == 12)) (list_all is_padded p.attributes) last.0 in
+    let first = and_parts (nat_lt p.kind 0x4000) (length p.tx == 12) third.0 in
+    record { kind = ltb-true _ _ first.0; tx = eqb-true _ _ first.1; attributes = all_padded_if p.attributes third.1; short = ltb-true _ _ last.1 }
 
 are_parts_from : (p : Parts) → AreParts p → are_parts p ≡ true
 are_parts_from p h =
-    and_from _ _ (and_from _ _ (and_from _ _ (lt-ltb p.kind 0x4000 h.kind) (eq-eqb _ _ h.transaction_id)) (all_padded_from p.attributes h.attributes)) (lt-ltb _ _ h.short)
+    and_from _ _ (and_from _ _ (and_from _ _ (lt-ltb p.kind 0x4000 h.kind) (eq-eqb _ _ h.tx)) (all_padded_from p.attributes h.attributes)) (lt-ltb _ _ h.short)
 
 -- a datagram that encodes parts is read as these
 pub reads_parts : (bytes : List ℕ) → EncodesParts bytes → Some (parts_in bytes) ≡ message_in bytes

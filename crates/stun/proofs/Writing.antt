@@ -63,7 +63,7 @@ unfolding building_parts
 stands b p r are spelled =
     let whole = parts_bytes p in
     let x = attributes_bytes p.attributes in
-    let length_is : number_at 2 2 (whole ++ r) ≡ length x = big_number-reads_back 2 (length x) ((big_bytes 4 magic_cookie ++ p.transaction_id) ++ x ++ r) are.short in
+    let length_is : number_at 2 2 (whole ++ r) ≡ length x = big_number-reads_back 2 (length x) ((big_bytes 4 magic_cookie ++ p.tx) ++ x ++ r) are.short in
     let end : 20 + number_at 2 2 (whole ++ r) ≡ length whole = omega (arith, length_is, length_of_parts p are) in
     let front : message_bytes b ≡ whole = ap message_bytes spelled ∙ piece_take whole r (20 + number_at 2 2 (whole ++ r)) end in
     let parts_is : building_parts b ≡ p = parts_are (message_bytes b) p are front in
@@ -106,13 +106,13 @@ length_with p kind value = omega (arith, ap length (push_bytes p.attributes (zer
 pub with_are : (p : Parts) (kind : ℕ) (value : List ℕ) → AreParts p → kind < 0x10000 → length (attributes_bytes (with_attribute p kind value).attributes) < 0x10000 → AreParts (with_attribute p kind value)
 with_are p kind value are small short = record {
   kind = are.kind;
-  transaction_id = are.transaction_id;
+  tx = are.tx;
   attributes = push_all p.attributes (zero_padded kind value) are.attributes (record { kind = small; value = omega (arith, length_with p kind value, short); padding = length_replicate (padding_count (length value)) });
   short = short;
 }
 
 length_of_with : (p : Parts) (kind : ℕ) (value : List ℕ) → AreParts p → length (parts_bytes (with_attribute p kind value)) ≡ 20 + length (attributes_bytes (with_attribute p kind value).attributes)
-length_of_with p kind value are = omega (arith, length-append p.transaction_id (attributes_bytes (with_attribute p kind value).attributes), are.transaction_id)
+length_of_with p kind value are = omega (arith, length-append p.tx (attributes_bytes (with_attribute p kind value).attributes), are.tx)
 
 -- an attribute is written after the message, and the header's length after it
 pushed : (b b1 b2 : List ℕ) (kind : ℕ) (value : List ℕ) (at total : ℕ) → IsBuilding b → b1 ≡ with_piece at (attribute_bytes (zero_padded kind value)) b → b2 ≡ with_piece 2 (big_bytes 2 total) b1
@@ -131,13 +131,13 @@ pushed b b1 b2 kind value at total is e1 e2 at_is total_is =
     let ends : length (parts_bytes p) + length (attribute_bytes a) ≡ length (parts_bytes q) = omega (arith, length_of_with p kind value is.message.are_parts, length_with p kind value, length_zero_padded kind value, split.1, split.2) in
     let rest : drop (length (attribute_bytes a)) r ≡ drop (length (parts_bytes q)) b =
     drop-drop (length (attribute_bytes a)) (length (parts_bytes p)) b ∙ ap (λ n. drop n b) ends in
-    let joined : parts_bytes p ++ (attribute_bytes a ++ drop (length (attribute_bytes a)) r) ≡ header p.kind (length x) p.transaction_id ++ (attributes_bytes q.attributes ++ drop (length (parts_bytes q)) b) =
-    append_assoc (header p.kind (length x) p.transaction_id) x (attribute_bytes a ++ drop (length (attribute_bytes a)) r)
-    ∙ ap (λ l. header p.kind (length x) p.transaction_id ++ l) (sym (append_assoc x (attribute_bytes a) (drop (length (attribute_bytes a)) r)) ∙ (λ i. sym (push_bytes p.attributes a) i ++ rest i)) in
+    let joined : parts_bytes p ++ (attribute_bytes a ++ drop (length (attribute_bytes a)) r) ≡ header p.kind (length x) p.tx ++ (attributes_bytes q.attributes ++ drop (length (parts_bytes q)) b) =
+    append_assoc (header p.kind (length x) p.tx) x (attribute_bytes a ++ drop (length (attribute_bytes a)) r)
+    ∙ ap (λ l. header p.kind (length x) p.tx ++ l) (sym (append_assoc x (attribute_bytes a) (drop (length (attribute_bytes a)) r)) ∙ (λ i. sym (push_bytes p.attributes a) i ++ rest i)) in
     let total_there : total ≡ length (attributes_bytes q.attributes) = omega (arith, total_is, length_with p kind value, split.2) in
     e2 ∙ ap (with_piece 2 (big_bytes 2 total)) (one ∙ joined)
-    ∙ (λ i. header p.kind (total_there i) p.transaction_id ++ (attributes_bytes q.attributes ++ drop (length (parts_bytes q)) b))
-    ∙ sym (append_assoc (header p.kind (length (attributes_bytes q.attributes)) p.transaction_id) (attributes_bytes q.attributes) (drop (length (parts_bytes q)) b))
+    ∙ (λ i. header p.kind (total_there i) p.tx ++ (attributes_bytes q.attributes ++ drop (length (parts_bytes q)) b))
+    ∙ sym (append_assoc (header p.kind (length (attributes_bytes q.attributes)) p.tx) (attributes_bytes q.attributes) (drop (length (parts_bytes q)) b))
 
 -- the buffer after a push, and its parts
 pushed_stands : (b new : List ℕ) (kind : ℕ) (value : List ℕ) → IsBuilding b → new ≡ bytes_over (with_attribute (building_parts b) kind value) b → kind < 0x10000 → number_at 2 2 b + (4 + length value + padding_count (length value)) < 0x10000
@@ -181,8 +181,8 @@ ended b message is there =
     let size : length message ≡ used_in b = ap length there in
     (size, ap (λ n. take n b) size ∙ take_used b is, omega (arith, size, used_fits b is))
 
-pub id_of : (p : Parts) (bytes : List ℕ) → AreParts p → bytes ≡ parts_bytes p → take 12 (drop 8 bytes) ≡ p.transaction_id
-id_of p bytes are there = ap (λ b. take 12 (drop 8 b)) there ∙ piece_take p.transaction_id (attributes_bytes p.attributes) 12 (sym are.transaction_id)
+pub id_of : (p : Parts) (bytes : List ℕ) → AreParts p → bytes ≡ parts_bytes p → take 12 (drop 8 bytes) ≡ p.tx
+id_of p bytes are there = ap (λ b. take 12 (drop 8 b)) there ∙ piece_take p.tx (attributes_bytes p.attributes) 12 (sym are.tx)
 
 length_over : (p : Parts) (b : List ℕ) → length (parts_bytes p) ≤ length b → length (bytes_over p b) ≡ length b
 length_over p b fits = omega (arith, length-append (parts_bytes p) (drop (length (parts_bytes p)) b), length-drop (length (parts_bytes p)) b)
@@ -212,7 +212,7 @@ appended b b1 new kind value n padding before total is small n_is padding_is bef
 -- ---- a message with no attributes
 
 pub started_are : (kind : ℕ) (id : List ℕ) → kind < 0x4000 → length id ≡ 12 → AreParts (empty_message kind id)
-started_are kind id small long = record { kind = small; transaction_id = long; attributes = tt; short = omega arith }
+started_are kind id small long = record { kind = small; tx = long; attributes = tt; short = omega arith }
 
 zero_first : (n : ℕ) → 0 + n ≡ n
 zero_first n = omega arith

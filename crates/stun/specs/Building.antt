@@ -36,9 +36,9 @@ with_piece at piece bytes = take at bytes ++ (piece ++ drop (at + length piece) 
 -- ---- what is written into a buffer
 
 -- a message with no attributes is over the first bytes, and the others are as they were
-pub record IsBegun (kind : ℕ) (transaction_id old new : List ℕ) : Type 0 where
-  pub parts : building_parts new ≡ empty_message kind transaction_id
-  pub bytes : new ≡ bytes_over (empty_message kind transaction_id) old
+pub record IsBegun (kind : ℕ) (tx old new : List ℕ) : Type 0 where
+  pub parts : building_parts new ≡ empty_message kind tx
+  pub bytes : new ≡ bytes_over (empty_message kind tx) old
   pub used : used_in new ≡ 20
   pub room : room_in new ≡ min (length old) 65552
   pub fits : 20 ≤ length old

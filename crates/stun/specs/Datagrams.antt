@@ -19,7 +19,7 @@ is_padded a =
 -- a type of 14 bits, an id of 96, and attributes whose length has 16 bits
 abbrev pub are_parts : Parts → Bool
 are_parts p =
-    nat_lt p.kind 0x4000 && (length p.transaction_id == 12) && list_all is_padded p.attributes
+    nat_lt p.kind 0x4000 && (length p.tx == 12) && list_all is_padded p.attributes
     && nat_lt (length (attributes_bytes p.attributes)) 0x10000
 
 -- whether the parts that are found in a datagram are those of a message, whose bytes are the datagram

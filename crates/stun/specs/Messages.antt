@@ -41,28 +41,28 @@ attributes_bytes attributes = flat_map attribute_bytes attributes
 -- the parts of a datagram
 pub record Parts : Type 0 where
   pub kind : ℕ
-  pub transaction_id : List ℕ
+  pub tx : List ℕ
   pub attributes : List PaddedAttribute
 
 -- a type of 14 bits, an id of 96, and attributes whose length has 16 bits
 pub record AreParts (p : Parts) : Type 0 where
   pub kind : p.kind < 0x4000
-  pub transaction_id : length p.transaction_id ≡ 12
+  pub tx : length p.tx ≡ 12
   pub attributes : AllByRecursion IsPadded p.attributes
   pub short : length (attributes_bytes p.attributes) < 0x10000
 
 -- two zero bits and the type, the length of what follows the header, the cookie, the id
 abbrev pub header : ℕ → ℕ → List ℕ → List ℕ
-header kind n transaction_id = big_bytes 2 kind ++ big_bytes 2 n ++ big_bytes 4 magic_cookie ++ transaction_id
+header kind n tx = big_bytes 2 kind ++ big_bytes 2 n ++ big_bytes 4 magic_cookie ++ tx
 
 abbrev pub parts_bytes : Parts → List ℕ
-parts_bytes p = header p.kind (length (attributes_bytes p.attributes)) p.transaction_id ++ attributes_bytes p.attributes
+parts_bytes p = header p.kind (length (attributes_bytes p.attributes)) p.tx ++ attributes_bytes p.attributes
 
 -- ---- messages
 
 pub record Message : Type 0 where
   pub kind : ℕ
-  pub transaction_id : List ℕ
+  pub tx : List ℕ
   pub attributes : List Attribute
 
 -- what follows the first MESSAGE-INTEGRITY is ignored (section 14.5)
@@ -71,7 +71,7 @@ up_to_integrity [] = []
 up_to_integrity (a ∷ rest) = a ∷ (if a.kind == message_integrity then [] else up_to_integrity rest)
 
 abbrev pub message_of : Parts → Message
-message_of p = record { kind = p.kind; transaction_id = p.transaction_id; attributes = map attribute_of (up_to_integrity p.attributes) }
+message_of p = record { kind = p.kind; tx = p.tx; attributes = map attribute_of (up_to_integrity p.attributes) }
 
 -- a datagram encodes a message
 abbrev pub IsMessage : Message → List ℕ → Type 0
@@ -86,7 +86,7 @@ before_first (a ∷ rest) = if a.kind == message_integrity then Some [] else opt
 
 -- the bytes of the datagram before it
 abbrev pub before_integrity : Parts → Option (List ℕ)
-before_integrity p = option_map (λ front. header p.kind (length (attributes_bytes p.attributes)) p.transaction_id ++ attributes_bytes front) (before_first p.attributes)
+before_integrity p = option_map (λ front. header p.kind (length (attributes_bytes p.attributes)) p.tx ++ attributes_bytes front) (before_first p.attributes)
 
 -- ---- what is written
 
@@ -98,7 +98,7 @@ abbrev pub with_attribute : Parts → ℕ → List ℕ → Parts
 with_attribute p kind value = record p { attributes = p.attributes ++ zero_padded kind value ∷ [] }
 
 abbrev pub empty_message : ℕ → List ℕ → Parts
-empty_message kind transaction_id = record { kind = kind; transaction_id = transaction_id; attributes = [] }
+empty_message kind tx = record { kind = kind; tx = tx; attributes = [] }
 
 -- how many bytes an attribute with a value takes
 abbrev pub attribute_length : List ℕ → ℕ

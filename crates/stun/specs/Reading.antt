@@ -34,7 +34,7 @@ abbrev pub attributes_in : List ℕ → List PaddedAttribute
 attributes_in bytes = first_attributes (length bytes) bytes
 
 abbrev pub parts_in : List ℕ → Parts
-parts_in bytes = record { kind = number_at 2 0 bytes; transaction_id = take 12 (drop 8 bytes); attributes = attributes_in (drop 20 bytes) }
+parts_in bytes = record { kind = number_at 2 0 bytes; tx = take 12 (drop 8 bytes); attributes = attributes_in (drop 20 bytes) }
 
 -- bytes that encode attributes, and a datagram that encodes a message
 pub record AreAttributes (bytes : List ℕ) : Type 0 where
@@ -68,4 +68,4 @@ padded_code = code_by (ℕ × (List ℕ × List ℕ)) (coded× coded_ℕ (coded�
 
 abbrev pub parts_code : Coded Parts
 parts_code = code_by (ℕ × (List ℕ × List PaddedAttribute)) (coded× coded_ℕ (coded× (coded_list coded_ℕ) (coded_list padded_code)))
-    (λ p. (p.kind, (p.transaction_id, p.attributes))) (λ t. record { kind = t.0; transaction_id = t.1.0; attributes = t.1.1 }) (λ _. refl)
+    (λ p. (p.kind, (p.tx, p.attributes))) (λ t. record { kind = t.0; tx = t.1.0; attributes = t.1.1 }) (λ _. refl)

@@ -55,14 +55,14 @@ fn write_zeros(buffer: &mut [u8], at: usize, n: usize)
 }
 
 /// Writes the header of a message with no attributes.
-pub(crate) fn write_header(buffer: &mut [u8], kind: u16, transaction_id: &[u8; 12])
+pub(crate) fn write_header(buffer: &mut [u8], kind: u16, tx: &[u8; 12])
     requires { 20 ≤ length buffer.old }
-    ensures { buffer.new ≡ with_piece 0 (parts_bytes (empty_message kind transaction_id.now)) buffer.old }
+    ensures { buffer.new ≡ with_piece 0 (parts_bytes (empty_message kind tx.now)) buffer.old }
 {
     write_number(buffer, 0, kind);
     write_number(buffer, 2, 0);
     write_cookie(buffer);
-    overwrite(buffer, 8, transaction_id);
+    overwrite(buffer, 8, tx);
 }
 
 /// Writes a value from an index on.
@@ -96,17 +96,17 @@ fn write_attribute<V: AttributeValue>(buffer: &mut [u8], at: usize, kind: u16, v
 ///
 /// # Errors
 /// Returns [`NoRoom`] for a buffer of less than 20 bytes, which it leaves unchanged.
-pub fn begin(buffer: &mut [u8], kind: u16, transaction_id: &[u8; 12]) -> Result<(), NoRoom>
+pub fn begin(buffer: &mut [u8], kind: u16, tx: &[u8; 12]) -> Result<(), NoRoom>
     requires { kind < 0x4000 }
     ensures building { OnOk result (IsBuilding buffer.new) }
-    ensures begins { OnOk result (IsBegun kind transaction_id.now buffer.old buffer.new) }
+    ensures begins { OnOk result (IsBegun kind tx.now buffer.old buffer.new) }
     ensures no_room { OnErr result (length buffer.old < 20) }
     ensures unchanged { OnErr result (buffer.new ≡ buffer.old) }
 {
     if buffer.len() < HEADER_BYTES {
         return Err(NoRoom);
     }
-    write_header(buffer, kind, transaction_id);
+    write_header(buffer, kind, tx);
     Ok(())
 }
 

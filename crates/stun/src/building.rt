@@ -28,33 +28,29 @@ impl<'a> Builder<'a> {
     ///
     /// # Errors
     /// Returns [`NoRoom`] for a buffer of less than 20 bytes, which it leaves unchanged.
-    pub fn start(
-        buffer: &'a mut [u8],
-        kind: u16,
-        transaction_id: [u8; 12],
-    ) -> Result<Builder<'a>, NoRoom>
+    pub fn start(buffer: &'a mut [u8], kind: u16, tx: [u8; 12]) -> Result<Builder<'a>, NoRoom>
         requires { kind < 0x4000 }
         ensures* unchanged { sem 𝓛 (RestsIfErr (Array u8 0) buffer.entry buffer_name result
             (λ last. last ≡ buffer.old)) }
-        ensures begins { IfOk result (λ b. IsBegun kind transaction_id buffer.old (bytes_of b)) }
+        ensures begins { IfOk result (λ b. IsBegun kind tx buffer.old (bytes_of b)) }
         ensures same_buffer { IfOk result (λ b. buffer_name b ≡ buffer.entry.ghost_name) }
         ensures no_room { OnErr result (length buffer.old < 20) }
     {
         if buffer.len() >= HEADER_BYTES {
-            Ok(Builder::with_header(buffer, kind, transaction_id))
+            Ok(Builder::with_header(buffer, kind, tx))
         } else {
             Err(NoRoom)
         }
     }
 
     /// Writes the header of a message with no attributes, and returns its builder.
-    fn with_header(buffer: &'a mut [u8], kind: u16, transaction_id: [u8; 12]) -> Builder<'a>
+    fn with_header(buffer: &'a mut [u8], kind: u16, tx: [u8; 12]) -> Builder<'a>
         requires kind { kind < 0x4000 }
         requires room { 20 ≤ length buffer.old }
-        ensures begins { IsBegun kind transaction_id buffer.old (bytes_of result) }
+        ensures begins { IsBegun kind tx buffer.old (bytes_of result) }
         ensures same_buffer { buffer_name result ≡ buffer.entry.ghost_name }
     {
-        write_header(buffer, kind, &transaction_id);
+        write_header(buffer, kind, &tx);
         Builder::resume(buffer)
     }
 
@@ -72,14 +68,14 @@ impl<'a> Builder<'a> {
     }
 
     /// Returns the transaction id of the message.
-    pub fn transaction_id(&self) -> [u8; 12]
-        ensures { result ≡ (parts_of self.now).transaction_id }
+    pub fn tx(&self) -> [u8; 12]
+        ensures { result ≡ (parts_of self.now).tx }
     {
-        let mut transaction_id = [0; 12];
+        let mut tx = [0; 12];
         let (_, id) = self.written().split_at(8);
         let (id, _) = id.split_at(12);
-        transaction_id.copy_from_slice(id);
-        transaction_id
+        tx.copy_from_slice(id);
+        tx
     }
 
     /// Appends an attribute, with zeros up to a multiple of four bytes.

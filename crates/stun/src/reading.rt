@@ -53,14 +53,14 @@ impl<'a> Message<'a> {
     }
 
     /// Returns the transaction id.
-    pub fn transaction_id(&self) -> [u8; 12]
-        ensures { result ≡ self.now.transaction_id }
+    pub fn tx(&self) -> [u8; 12]
+        ensures { result ≡ self.now.tx }
     {
-        let mut transaction_id = [0; 12];
+        let mut tx = [0; 12];
         let (_, id) = self.bytes.split_at(8);
         let (id, _) = id.split_at(12);
-        transaction_id.copy_from_slice(id);
-        transaction_id
+        tx.copy_from_slice(id);
+        tx
     }
 
     /// Returns the bytes of all attributes with their padding: the datagram after its header.

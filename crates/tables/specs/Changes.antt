@@ -42,10 +42,10 @@ abbrev pub fresh : Allocation → Held
 fresh allocation = record { allocation = allocation; permissions = empty; channels = empty }
 
 abbrev pub allocation_change : Addr → ℕ → List ℕ → Family → ℕ → Rows → Change ℕ
-allocation_change client user transaction_id family lifetime rows = do
+allocation_change client user tx family lifetime rows = do
   _ ← check (is_none (allocation_of client rows)) Mismatch
   slot ← ok_or (first_free rows) Capacity
-  Ok (slot, with_held rows slot (fresh (record { slot = slot; client = client; family = family; user = user; transaction_id = transaction_id; lifetime = lifetime; end = rows.moment + lifetime })))
+  Ok (slot, with_held rows slot (fresh (record { slot = slot; client = client; family = family; user = user; tx = tx; lifetime = lifetime; end = rows.moment + lifetime })))
 
 -- a new end; with a lifetime of 0 the allocation has ended
 abbrev pub refresh_change : ℕ → ℕ → Rows → Change (Unit {0})

@@ -15,7 +15,7 @@ pub struct Allocation {
     /// The user whose credentials made it, by index.
     pub user: usize,
     /// The transaction id of the Allocate request that made it.
-    pub transaction_id: [u8; 12],
+    pub tx: [u8; 12],
     /// The lifetime that this request was given, in seconds.
     pub lifetime: u32,
     /// The first moment at which it isn't live any more, in seconds.

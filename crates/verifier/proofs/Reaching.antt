@@ -86,7 +86,7 @@ zero_bytes n = record { count = let zero_byte : ℕ = 0 in length-replicate n ze
 
 environment_is_possible : IsPossible some_environment
 environment_is_possible = record {
-  context = record { side = omega arith; source = zero_bytes 8; wide_source = zero_bytes 20; transaction_id = zero_bytes 12 };
+  context = record { side = omega arith; source = zero_bytes 8; wide_source = zero_bytes 20; tx = zero_bytes 12 };
   helpers = record {
     channel_peer = λ form n address word bytes. (omega arith, zero_bytes 20);
     channel_to = λ form n address word bytes. omega arith;

@@ -34,7 +34,7 @@ pub record IsVerified (code : List Insn) : Type 0 where
 -- an environment that a relay can give: a client's datagram, and helpers that find nothing
 abbrev pub some_environment : Environment
 some_environment = record {
-  context = record { side = 0; source = replicate 8 0; wide_source = replicate 20 0; transaction_id = replicate 12 0 };
+  context = record { side = 0; source = replicate 8 0; wide_source = replicate 20 0; tx = replicate 12 0 };
   answer = λ helper number address. (0, replicate 20 0);
 }
 

@@ -175,10 +175,7 @@ fn check_rows(
 
 /// Compares the replies to requests of a user.
 fn check_signed(rt: &impl Abort, alloc: Global, config: &Config) -> Result<(), Fail> {
-    let other = Request {
-        transaction_id: 2,
-        ..FIRST
-    };
+    let other = Request { tx: 2, ..FIRST };
     let bind = Request {
         method: Method::ChannelBind,
         attributes: &[CHANNEL, PEER],
@@ -216,7 +213,7 @@ fn check_families(rt: &impl Abort, alloc: Global, config: &Config) -> Result<(),
     };
     let other = Request {
         client: OTHER_CLIENT,
-        transaction_id: 2,
+        tx: 2,
         ..ipv6
     };
     // one that is repeated for another family, or for none, gets the same reply

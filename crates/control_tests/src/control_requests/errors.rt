@@ -74,10 +74,7 @@ static ALLOCATIONS: [Exchange; 10] = [
         lifetime: 600,
     },
     Exchange {
-        request: Request {
-            transaction_id: 2,
-            ..FIRST
-        },
+        request: Request { tx: 2, ..FIRST },
         code: 437,
         lifetime: 0,
     },

@@ -119,7 +119,7 @@ fn tables_of(
         let allocate = Request {
             now: EARLIER,
             attributes: &[UDP, case.values.requested],
-            transaction_id: case.allocation_id,
+            tx: case.allocation_id,
             ..case.owner_request(Method::Allocate)
         };
         check_success(rt, &mut tables, config, &allocate)?;

@@ -573,10 +573,10 @@ datagram_in-text : (slots : ℕ) (source : List ℕ → Option (Source × List �
 datagram_in-text slots source given bytes from is =
     let rest = source_text given.from ++ 0x20 ∷ bytes_text bytes in
     rw (
-      split_at-free 0x20 (decimal given.now) (encode_lower given.transaction_id ++ 0x20 ∷ rest) (decimal-free 0x20 given.now (inl (omega arith)) is.0),
-      split_at-free 0x20 (encode_lower given.transaction_id) rest (encoded-free given.transaction_id),
+      split_at-free 0x20 (decimal given.now) (encode_lower given.tx ++ 0x20 ∷ rest) (decimal-free 0x20 given.now (inl (omega arith)) is.0),
+      split_at-free 0x20 (encode_lower given.tx) rest (encoded-free given.tx),
       decimal_in-decimal (2 ^ 64) given.now is.0 is.0,
-      digits_in-encoded 12 given.transaction_id is.1 is.2,
+      digits_in-encoded 12 given.tx is.1 is.2,
       from,
       content_in-text bytes is.4 is.5,
     ) refl
@@ -589,20 +589,20 @@ datagram_in-is slots side source text j reads h =
     let first = then_some (parts_around 0x20 text) _ j h in
     let second = then_some (parts_around 0x20 first.0.1) _ j first.2 in
     let now = then_some (decimal_in (2 ^ 64) first.0.0) _ j second.2 in
-    let transaction_id = then_some (digits_in 12 second.0.0) _ j now.2 in
-    let from = then_some (source second.0.1) _ j transaction_id.2 in
+    let tx = then_some (digits_in 12 second.0.0) _ j now.2 in
+    let from = then_some (source second.0.1) _ j tx.2 in
     let bytes = then_some (content_in from.0.1) _ j from.2 in
     let now_is = decimal_in-is (2 ^ 64) first.0.0 now.0 now.1 in
-    let id_is = digits_in-is 12 second.0.0 transaction_id.0 transaction_id.1 in
+    let id_is = digits_in-is 12 second.0.0 tx.0 tx.1 in
     let from_is = reads second.0.1 from.0 from.1 in
     let bytes_are = content_in-is from.0.1 bytes.0 bytes.1 in
-    let given : Meta = record { now = now.0; transaction_id = transaction_id.0; from = from.0.0 } in
+    let given : Meta = record { now = now.0; tx = tx.0; from = from.0.0 } in
     let same : Datagram given bytes.0 ≡ j = same_Some (Datagram given bytes.0) j bytes.2 in
     let whole : text ≡ datagram_text given bytes.0 =
     split_at-joins 0x20 text first.0 first.1
     ∙ (λ i. now_is.1 i ++ 0x20 ∷ split_at-joins 0x20 first.0.1 second.0 second.1 i)
     ∙ (λ i. decimal now.0 ++ 0x20 ∷ (id_is.2 i ++ 0x20 ∷ from_is.0.1 i))
-    ∙ (λ i. decimal now.0 ++ 0x20 ∷ (encode_lower transaction_id.0 ++ 0x20 ∷ (source_text from.0.0 ++ 0x20 ∷ bytes_are.2 i))) in
+    ∙ (λ i. decimal now.0 ++ 0x20 ∷ (encode_lower tx.0 ++ 0x20 ∷ (source_text from.0.0 ++ 0x20 ∷ bytes_are.2 i))) in
     let P : Event → Type 0 = λ d. IsEvent slots d × (side ++ 0x20 ∷ text ≡ line_of d) in
     subst P same ((now_is.0, id_is.0, id_is.1, from_is.0.0, bytes_are.0, bytes_are.1), λ i. from_is.1 i ++ 0x20 ∷ whole i)
 

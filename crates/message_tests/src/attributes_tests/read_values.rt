@@ -20,7 +20,7 @@ const MALFORMED: [&[u8]; 6] = [
 fn addresses_are_read(rt: HostRuntime) {
     for (index, row) in ADDRESSES.iter().enumerate() {
         assert_eq!(rt;
-            read_xor_addr(row.value, &row.transaction_id),
+            read_xor_addr(row.value, &row.tx),
             Ok(row.address),
             "row {index}"
         );

@@ -21,7 +21,7 @@ fn attributes<'b>(builder: &'b Builder<'_>) -> &'b [u8] {
 fn check_addresses(rt: &impl Abort) -> Result<(), Fail> {
     for (index, row) in ADDRESSES.iter().enumerate() {
         let mut buffer = [0xff; 44];
-        let mut builder = Builder::start(&mut buffer, 0x0101, row.transaction_id)?;
+        let mut builder = Builder::start(&mut buffer, 0x0101, row.tx)?;
         write_xor_addr(&mut builder, XOR_RELAYED_ADDRESS, &row.address)?;
         let written = attributes(&builder);
         assert_eq!(rt; written.len(), 4 + row.value.len(), "row {index}");

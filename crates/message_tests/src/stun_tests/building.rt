@@ -9,11 +9,11 @@ use std::test::Fail;
 use stun::{Builder, NoRoom, begin, read_back};
 
 /// Builds a reply in the caller's buffer, whose bytes the contract describes.
-fn reply(out: &mut [u8], transaction_id: [u8; 12], value: &[u8]) -> usize
+fn reply(out: &mut [u8], tx: [u8; 12], value: &[u8]) -> usize
     ensures { 0 < result → take result out.new
-        ≡ parts_bytes (with_attribute (empty_message 0x0101 transaction_id) 0x0020 value.now) }
+        ≡ parts_bytes (with_attribute (empty_message 0x0101 tx) 0x0020 value.now) }
 {
-    if begin(out, 0x0101, &transaction_id).is_err() {
+    if begin(out, 0x0101, &tx).is_err() {
         return 0;
     }
     let mut builder = Builder::resume(out);

@@ -62,7 +62,7 @@ struct Sample {
     section: &'static str,
     bytes: &'static [u8],
     kind: u16,
-    transaction_id: &'static [u8],
+    tx: &'static [u8],
     parts: &'static [Part],
     integrity: usize,
 }
@@ -72,7 +72,7 @@ static SAMPLES: [Sample; 4] = [
         section: "2.1",
         bytes: &REQUEST,
         kind: 0x0001,
-        transaction_id: b"\xb7\xe7\xa7\x01\xbc\x34\xd6\x86\xfa\x87\xdf\xae",
+        tx: b"\xb7\xe7\xa7\x01\xbc\x34\xd6\x86\xfa\x87\xdf\xae",
         parts: &[
             Part {
                 kind: 0x8022,
@@ -101,7 +101,7 @@ static SAMPLES: [Sample; 4] = [
         section: "2.2",
         bytes: &IPV4_RESPONSE,
         kind: 0x0101,
-        transaction_id: b"\xb7\xe7\xa7\x01\xbc\x34\xd6\x86\xfa\x87\xdf\xae",
+        tx: b"\xb7\xe7\xa7\x01\xbc\x34\xd6\x86\xfa\x87\xdf\xae",
         parts: &[
             Part {
                 kind: 0x8022,
@@ -122,7 +122,7 @@ static SAMPLES: [Sample; 4] = [
         section: "2.3",
         bytes: &IPV6_RESPONSE,
         kind: 0x0101,
-        transaction_id: b"\xb7\xe7\xa7\x01\xbc\x34\xd6\x86\xfa\x87\xdf\xae",
+        tx: b"\xb7\xe7\xa7\x01\xbc\x34\xd6\x86\xfa\x87\xdf\xae",
         parts: &[
             Part {
                 kind: 0x8022,
@@ -143,7 +143,7 @@ static SAMPLES: [Sample; 4] = [
         section: "2.4",
         bytes: &LONG_TERM_REQUEST,
         kind: 0x0001,
-        transaction_id: b"\x78\xad\x34\x33\xc6\xad\x72\xc0\x29\xda\x41\x2e",
+        tx: b"\x78\xad\x34\x33\xc6\xad\x72\xc0\x29\xda\x41\x2e",
         parts: &[
             Part {
                 kind: 0x0006,
@@ -171,12 +171,7 @@ fn reads_the_sample_messages(rt: HostRuntime) {
     for sample in SAMPLES.iter() {
         let section = sample.section;
         assert!(rt;
-            reads_as(
-                sample.bytes,
-                sample.kind,
-                sample.transaction_id,
-                sample.parts
-            ),
+            reads_as(sample.bytes, sample.kind, sample.tx, sample.parts),
             "section {section}"
         );
         assert!(rt;

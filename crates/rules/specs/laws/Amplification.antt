@@ -45,17 +45,17 @@ use Rattle.rules.specs.laws.Lengths.{IsSpelled, first_value-short, length-reply,
 
 -- ---- responses
 
-address_short : (address : Addr) (transaction_id : List ℕ) → attribute_length (address_value address transaction_id) ≤ 24
+address_short : (address : Addr) (tx : List ℕ) → attribute_length (address_value address tx) ≤ 24
 unfolding address_value xor_bytes
-address_short (V4 ip port) transaction_id = omega arith
-address_short (V6 ip port) transaction_id = omega arith
+address_short (V4 ip port) tx = omega arith
+address_short (V6 ip port) tx = omega arith
 
-grant_short : (config : Config) (client : Addr) (transaction_id : List ℕ) (g : Grant) → length_of_all (grant_attributes config client transaction_id g) ≤ 56
-grant_short config client transaction_id grant.Mapped = omega (arith, address_short client transaction_id)
-grant_short config client transaction_id (grant.Allocated family slot lifetime) =
-    omega (arith, address_short (relayed_address config family slot) transaction_id, address_short client transaction_id)
-grant_short config client transaction_id (grant.Refreshed lifetime) = omega arith
-grant_short config client transaction_id grant.Done = omega arith
+grant_short : (config : Config) (client : Addr) (tx : List ℕ) (g : Grant) → length_of_all (grant_attributes config client tx g) ≤ 56
+grant_short config client tx grant.Mapped = omega (arith, address_short client tx)
+grant_short config client tx (grant.Allocated family slot lifetime) =
+    omega (arith, address_short (relayed_address config family slot) tx, address_short client tx)
+grant_short config client tx (grant.Refreshed lifetime) = omega arith
+grant_short config client tx grant.Done = omega arith
 
 length-unknown_value : (kinds : List ℕ) → length (unknown_value kinds) ≡ 2 * length kinds
 length-unknown_value [] = refl
@@ -98,23 +98,23 @@ error_bounded config p error = of error where
   of PeerAddressFamilyMismatch = others PeerAddressFamilyMismatch tt
   of InsufficientCapacity = others InsufficientCapacity tt
 
-module _ (config : Config) (r : Request) (client : Addr) (p : Parts) (long : length p.transaction_id ≡ 12) where
+module _ (config : Config) (r : Request) (client : Addr) (p : Parts) (long : length p.tx ≡ 12) where
   -- a response that is not signed
   unsigned_bounded : (result : Result Grant ErrorCode) → length (parts_bytes (reply_to config r client p None result)) ≤ longest_unauthenticated config
   unsigned_bounded (Ok given) =
-      let attributes = grant_attributes config client p.transaction_id given in
-      le_trans (omega (arith, length-reply r class.Success p.transaction_id attributes None long, grant_short config client p.transaction_id given))
+      let attributes = grant_attributes config client p.tx given in
+      le_trans (omega (arith, length-reply r class.Success p.tx attributes None long, grant_short config client p.tx given))
       (le-max_left 84 (challenge_length config))
   unsigned_bounded (Err error) =
-      le_trans (omega (arith, length-reply r class.Error p.transaction_id (error_attributes config p error) None long)) (error_bounded config p error)
+      le_trans (omega (arith, length-reply r class.Error p.tx (error_attributes config p error) None long)) (error_bounded config p error)
 
   -- and one that is
   signed_bounded : (key : List ℕ) (d : Decision) → GivesNoChallenge d → length (parts_bytes (reply_to config r client p (Some key) (grant_of d))) ≤ 108
   signed_bounded key (Ok given) none =
-      let attributes = grant_attributes config client p.transaction_id given.0 in
-      omega (arith, length-reply r class.Success p.transaction_id attributes (Some key) long, grant_short config client p.transaction_id given.0)
+      let attributes = grant_attributes config client p.tx given.0 in
+      omega (arith, length-reply r class.Success p.tx attributes (Some key) long, grant_short config client p.tx given.0)
   signed_bounded key (Err error) none =
-      omega (arith, length-reply r class.Error p.transaction_id (error_attributes config p error) (Some key) long, error_short config p error none)
+      omega (arith, length-reply r class.Error p.tx (error_attributes config p error) (Some key) long, error_short config p error none)
 
 -- ---- relaying
 
@@ -178,7 +178,7 @@ module _ (client : Addr) (live : Rows) (datagram : List ℕ) where
         each HasPart (guard (all_understood p)) _ (λ _.
         each HasPart (first_value p XOR_PEER_ADDRESS) _ (λ value.
         each_with IsPart HasPart (first_value p DATA) _ (first_value-short datagram p DATA is) (λ content part.
-        each HasPart (address_in p.transaction_id value) _ (λ to.
+        each HasPart (address_in p.tx value) _ (λ to.
         each HasPart (guard (permits to)) _ (λ _. part)))))
 
     send_from_part : IfSome (send_from client live p) SendsPart

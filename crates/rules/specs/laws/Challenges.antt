@@ -97,7 +97,7 @@ module _ (config : Config) (client : Addr) (user : ℕ) (p : Parts) (rows : Rows
   allocate_gives : (o : Option Allocation) → GivesNoChallenge (allocate_beside config o client user p rows)
   allocate_gives None =
       then (acceptable config p) _ acceptable_gives (λ given.
-      then (result_of_change (allocation_change client user p.transaction_id given.0 given.1 rows)) _ (changed _) (λ made. tt))
+      then (result_of_change (allocation_change client user p.tx given.0 given.1 rows)) _ (changed _) (λ made. tt))
   allocate_gives (Some a) = then (check (is_repeated a user p) AllocationMismatch) _ (tested (is_repeated a user p) AllocationMismatch tt) (λ _. tt)
 
   own_gives : GivesNoChallenge (own_allocation client user rows)
@@ -123,7 +123,7 @@ module _ (config : Config) (client : Addr) (user : ℕ) (p : Parts) (rows : Rows
   bind_gives =
       then (own_allocation client user rows) _ own_gives (λ a.
       then (required_value (number_of_value 2) (first_value p CHANNEL_NUMBER)) _ (required (number_of_value 2) (first_value p CHANNEL_NUMBER)) (λ number.
-      then (required_value (address_in p.transaction_id) (first_value p XOR_PEER_ADDRESS)) _ (required (address_in p.transaction_id) (first_value p XOR_PEER_ADDRESS)) (λ peer.
+      then (required_value (address_in p.tx) (first_value p XOR_PEER_ADDRESS)) _ (required (address_in p.tx) (first_value p XOR_PEER_ADDRESS)) (λ peer.
       then (check (is_between FIRST_CHANNEL LAST_CHANNEL number) BadRequest) _ (tested _ BadRequest tt) (λ _.
       then (result_of_change (bind_change a.slot number peer rows)) _ (changed _) (λ made. tt)))))
 

@@ -80,17 +80,17 @@ module _ (rows : Rows) (a : Allocation) where
 
   module _ (p : Parts) where
     abbrev address_test : List ℕ → Result (Unit {0}) Discard
-    address_test value = fallible.◌>>=◌ (ok_or (address_in p.transaction_id value) Incomplete) permission_test
+    address_test value = fallible.◌>>=◌ (ok_or (address_in p.tx value) Incomplete) permission_test
 
     abbrev sent_to : List ℕ → List ℕ → Option (Addr × List ℕ)
-    sent_to value content = address_in p.transaction_id value >>= λ to. guard (has_permission a.slot to rows)
+    sent_to value content = address_in p.tx value >>= λ to. guard (has_permission a.slot to rows)
         >>= λ _. Some (to, content)
 
     of_content : (value : List ℕ) (o : Option (List ℕ))
         → Agree ((o >>= λ content. sent_to value content) >>= λ pair. to_peer a pair)
         (relayed_if (fallible.◌>>=◌ (ok_or o Incomplete) (λ _. address_test value)))
     of_content value None = refl
-    of_content value (Some content) = of_address (address_in p.transaction_id value) content
+    of_content value (Some content) = of_address (address_in p.tx value) content
 
     abbrev content_test : List ℕ → Result (Unit {0}) Discard
     content_test value = fallible.◌>>=◌ (ok_or (first_value p DATA) Incomplete) (λ _. address_test value)
@@ -135,9 +135,9 @@ module _ (client : Addr) (rows : Rows) where
     of None = refl
     of (Some a) = of_understood rows a p (all_understood p)
 
-module _ (slot : ℕ) (peer : Addr) (transaction_id : List ℕ) (rows : Rows) (content : List ℕ) where
+module _ (slot : ℕ) (peer : Addr) (tx : List ℕ) (rows : Rows) (content : List ℕ) where
   abbrev carried : List ℕ
-  carried = message_to_client (channel_of slot peer rows) peer transaction_id content
+  carried = message_to_client (channel_of slot peer rows) peer tx content
 
   of_tests : (o : Option Allocation) (permits fits : Bool)
       → Agree (option_map (λ a. a.client) o
@@ -149,8 +149,8 @@ module _ (slot : ℕ) (peer : Addr) (transaction_id : List ℕ) (rows : Rows) (c
   of_tests (Some a) true false = refl
   of_tests (Some a) true true = refl
 
-  pub peer_agrees : Agree (peer_data_to slot peer transaction_id rows content)
-      (relayed_if (peer_test slot peer transaction_id rows content))
+  pub peer_agrees : Agree (peer_data_to slot peer tx rows content)
+      (relayed_if (peer_test slot peer tx rows content))
   peer_agrees = of_tests (allocation_at slot rows) (has_permission slot peer rows) (nat_le (length carried) MAX_DATAGRAM)
 
 -- ---- clients
@@ -183,10 +183,10 @@ module _ (config : Config) (now : ℕ) (client : Addr) (rows : Rows) where
   of_datagram bytes false = channel_data_agrees client (rows_at now rows) bytes
 
 -- nothing is sent for a datagram of either side exactly where it is discarded
-pub discards_agree : (config : Config) (now : ℕ) (transaction_id : List ℕ) (from : Source) (rows : Rows) (bytes : List ℕ)
-    → Agree (by_rules config now transaction_id from rows bytes).answer
-    (ruled_disposition config now transaction_id from rows bytes)
-discards_agree config now transaction_id (Client client) rows bytes = of_datagram config now client rows bytes
+pub discards_agree : (config : Config) (now : ℕ) (tx : List ℕ) (from : Source) (rows : Rows) (bytes : List ℕ)
+    → Agree (by_rules config now tx from rows bytes).answer
+    (ruled_disposition config now tx from rows bytes)
+discards_agree config now tx (Client client) rows bytes = of_datagram config now client rows bytes
     (begins_as_stun bytes)
-discards_agree config now transaction_id (Peer slot peer) rows bytes = peer_agrees slot peer transaction_id (rows_at now rows)
+discards_agree config now tx (Peer slot peer) rows bytes = peer_agrees slot peer tx (rows_at now rows)
     bytes

@@ -57,11 +57,11 @@ module _ (client : Addr) (a b : Rows) (are_a : AreWellFormed a) (are_b : AreWell
       ap (λ (o : Option Held). send (λ to. is_some (option_and_then (permission_of to) o)) p >>= λ pair. to_peer x pair) (held_alike x is))
 
 -- a peer's data depends on what its slot holds
-pub peer_data-alike : (slot : ℕ) (peer : Addr) (a b : Rows) (transaction_id content : List ℕ) → held_in a slot ≡ held_in b slot
-    → peer_data_to slot peer transaction_id a content ≡ peer_data_to slot peer transaction_id b content
-peer_data-alike slot peer a b transaction_id content same =
+pub peer_data-alike : (slot : ℕ) (peer : Addr) (a b : Rows) (tx content : List ℕ) → held_in a slot ≡ held_in b slot
+    → peer_data_to slot peer tx a content ≡ peer_data_to slot peer tx b content
+peer_data-alike slot peer a b tx content same =
     ap (λ (o : Option Held). option_map (λ a. a.client) (option_map (λ held. held.allocation) o)
-    >>= λ client. option_map (ToClient client) (peer_data (is_some (option_and_then (permission_of peer) o)) (option_and_then (bound_channel peer) o) peer transaction_id content)) same
+    >>= λ client. option_map (ToClient client) (peer_data (is_some (option_and_then (permission_of peer) o)) (option_and_then (bound_channel peer) o) peer tx content)) same
 
 pub peer_slot-alike : (slot : ℕ) (peer : Addr) (a b : Rows) → LookAlike (Peer slot peer) a b → held_in a slot ≡ held_in b slot
 peer_slot-alike slot peer a b alike = let own = alike.own in cc
@@ -163,11 +163,11 @@ pub looks_like_itself : (from : Source) (rows : Rows) → LookAlike from rows ro
 looks_like_itself from rows = record { moment = refl; count = refl; own = refl; next = refl }
 
 -- a client's datagram, where replies over tables that look alike are alike
-pub acts_on_own : (system : System) (config : Config) (now : ℕ) (transaction_id : List ℕ) (client : Addr) (bytes : List ℕ)
+pub acts_on_own : (system : System) (config : Config) (now : ℕ) (tx : List ℕ) (client : Addr) (bytes : List ℕ)
     → ((a b : Rows) → AreWellFormed a → AreWellFormed b → LookAlike (Client client) (rows_at now a) (rows_at now b)
-    → RepliesAlike client now a (system config now transaction_id (Client client) a bytes) (system config now transaction_id (Client client) b bytes))
-    → ActsOnItsOwn system config now transaction_id (Client client) bytes
-acts_on_own system config now transaction_id client bytes each = record {
+    → RepliesAlike client now a (system config now tx (Client client) a bytes) (system config now tx (Client client) b bytes))
+    → ActsOnItsOwn system config now tx (Client client) bytes
+acts_on_own system config now tx client bytes each = record {
   answer = λ a b are_a are_b alike. (each a b are_a are_b alike).answer;
   own = λ a b are_a are_b alike. ap (λ (rows : Rows). rows.slots) (each a b are_a are_b alike).own;
   others = λ rows are. ap (λ (rows : Rows). rows.slots) (sym (each rows rows are are (looks_like_itself (Client client) (rows_at now rows))).others);
@@ -180,11 +180,11 @@ pub record RepliesUnchanged (a b : Rows) (x y : SystemReply) : Type 0 where
   pub kept_b : y.rows ≡ b
 
 -- a peer's datagram, which changes nothing
-pub acts_unchanged : (system : System) (config : Config) (now : ℕ) (transaction_id : List ℕ) (slot : ℕ) (peer : Addr) (bytes : List ℕ)
+pub acts_unchanged : (system : System) (config : Config) (now : ℕ) (tx : List ℕ) (slot : ℕ) (peer : Addr) (bytes : List ℕ)
     → ((a b : Rows) → LookAlike (Peer slot peer) (rows_at now a) (rows_at now b)
-    → RepliesUnchanged a b (system config now transaction_id (Peer slot peer) a bytes) (system config now transaction_id (Peer slot peer) b bytes))
-    → ActsOnItsOwn system config now transaction_id (Peer slot peer) bytes
-acts_unchanged system config now transaction_id slot peer bytes each = record {
+    → RepliesUnchanged a b (system config now tx (Peer slot peer) a bytes) (system config now tx (Peer slot peer) b bytes))
+    → ActsOnItsOwn system config now tx (Peer slot peer) bytes
+acts_unchanged system config now tx slot peer bytes each = record {
   answer = λ a b are_a are_b alike. (each a b alike).answer;
   own = λ a b are_a are_b alike. ap own_at (each a b alike).kept_a ∙ alike.own ∙ sym (ap own_at (each a b alike).kept_b);
   others = λ rows are. ap (λ (left : Rows). (rows_at now left).slots) (sym (each rows rows (looks_like_itself (Peer slot peer) (rows_at now rows))).kept_a);
@@ -193,11 +193,11 @@ acts_unchanged system config now transaction_id slot peer bytes each = record {
   own_at rows = own_rows (Peer slot peer) (rows_at now rows)
 
 pub rules_keep_users_apart : KeepsUsersApart by_rules
-rules_keep_users_apart config now transaction_id (Client client) bytes =
-    acts_on_own by_rules config now transaction_id client bytes (λ a b are_a are_b alike. from_client-alike config now client a b are_a are_b alike bytes)
-rules_keep_users_apart config now transaction_id (Peer slot peer) bytes =
-    acts_unchanged by_rules config now transaction_id slot peer bytes (λ a b alike. record {
-      answer = peer_data-alike slot peer (rows_at now a) (rows_at now b) transaction_id bytes (peer_slot-alike slot peer (rows_at now a) (rows_at now b) alike);
+rules_keep_users_apart config now tx (Client client) bytes =
+    acts_on_own by_rules config now tx client bytes (λ a b are_a are_b alike. from_client-alike config now client a b are_a are_b alike bytes)
+rules_keep_users_apart config now tx (Peer slot peer) bytes =
+    acts_unchanged by_rules config now tx slot peer bytes (λ a b alike. record {
+      answer = peer_data-alike slot peer (rows_at now a) (rows_at now b) tx bytes (peer_slot-alike slot peer (rows_at now a) (rows_at now b) alike);
       kept_a = refl;
       kept_b = refl;
     })

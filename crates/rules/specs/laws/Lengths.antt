@@ -23,8 +23,8 @@ use Rattle.control.specs.declared.request.Request.{Request}
 -- ---- parts
 
 -- eight bytes of the header, the id, the attributes
-pub length-parts : (p : Parts) → length (parts_bytes p) ≡ 8 + length p.transaction_id + length (attributes_bytes p.attributes)
-length-parts p = omega (arith, length-append p.transaction_id (attributes_bytes p.attributes))
+pub length-parts : (p : Parts) → length (parts_bytes p) ≡ 8 + length p.tx + length (attributes_bytes p.attributes)
+length-parts p = omega (arith, length-append p.tx (attributes_bytes p.attributes))
 
 length-attribute : (a : PaddedAttribute) → length (attribute_bytes a) ≡ 4 + length a.value + length a.padding
 length-attribute a = omega (arith, length-append a.value a.padding)
@@ -57,7 +57,7 @@ length-with_attributes p [] = omega arith
 length-with_attributes p (a ∷ rest) =
     omega (arith, length-with_attributes (with_attribute p a.kind a.value) rest, length-with_attribute p a.kind a.value)
 
-id-with_attributes : (p : Parts) (attributes : List Attribute) → (with_attributes p attributes).transaction_id ≡ p.transaction_id
+id-with_attributes : (p : Parts) (attributes : List Attribute) → (with_attributes p attributes).tx ≡ p.tx
 id-with_attributes p [] = refl
 id-with_attributes p (a ∷ rest) = id-with_attributes (with_attribute p a.kind a.value) rest
 
@@ -80,32 +80,32 @@ length-with_integrity key p =
 
 -- ---- replies
 
-module _ (kind : ℕ) (transaction_id : List ℕ) (attributes : List Attribute) where
+module _ (kind : ℕ) (tx : List ℕ) (attributes : List Attribute) where
   abbrev unsigned : Parts
-  unsigned = with_attributes (empty_message kind transaction_id) attributes
+  unsigned = with_attributes (empty_message kind tx) attributes
 
-  length-unsigned : length (parts_bytes unsigned) ≡ 8 + length transaction_id + length_of_all attributes
+  length-unsigned : length (parts_bytes unsigned) ≡ 8 + length tx + length_of_all attributes
   length-unsigned =
       omega (
         arith,
         length-parts unsigned,
-        ap length (id-with_attributes (empty_message kind transaction_id) attributes),
-        length-with_attributes (empty_message kind transaction_id) attributes,
+        ap length (id-with_attributes (empty_message kind tx) attributes),
+        length-with_attributes (empty_message kind tx) attributes,
       )
 
-  length-signed : (key : Option (List ℕ)) → length (parts_bytes (signed_if key unsigned)) ≡ 8 + length transaction_id + length_of_all attributes + length_of_signature key
+  length-signed : (key : Option (List ℕ)) → length (parts_bytes (signed_if key unsigned)) ≡ 8 + length tx + length_of_all attributes + length_of_signature key
   length-signed None = omega (arith, length-unsigned)
   length-signed (Some key) = omega (arith, length-with_integrity key unsigned, length-unsigned)
 
-pub length-reply : (r : Request) (class : Class) (transaction_id : List ℕ) (attributes : List Attribute) (key : Option (List ℕ))
-    → length transaction_id ≡ 12 → length (parts_bytes (reply r class transaction_id attributes key)) ≡ 20 + length_of_all attributes + length_of_signature key
-length-reply r class transaction_id attributes key long = omega (arith, length-signed (kind_of r class) transaction_id attributes key, long)
+pub length-reply : (r : Request) (class : Class) (tx : List ℕ) (attributes : List Attribute) (key : Option (List ℕ))
+    → length tx ≡ 12 → length (parts_bytes (reply r class tx attributes key)) ≡ 20 + length_of_all attributes + length_of_signature key
+length-reply r class tx attributes key long = omega (arith, length-signed (kind_of r class) tx attributes key, long)
 
 -- ---- messages that are read
 
 -- the parts of a datagram: an id of 96 bits, and its bytes
 pub record IsSpelled (bytes : List ℕ) (p : Parts) : Type 0 where
-  pub id : length p.transaction_id ≡ 12
+  pub id : length p.tx ≡ 12
   pub spelled : bytes ≡ parts_bytes p
 
 pub message_in-spelled : (bytes : List ℕ) (p : Parts) → message_in bytes ≡ Some p → IsSpelled bytes p
@@ -115,7 +115,7 @@ message_in-spelled bytes p = of (is_message bytes) refl where
       let both = and_parts (are_parts (parts_in bytes)) _ is in
       let id = (and_parts _ _ (and_parts _ _ (and_parts _ _ both.0).0).0).1 in
       subst (λ (q : Parts). IsSpelled bytes q) (same_Some (parts_in bytes) p same) (record {
-        id = eqb-true (length (parts_in bytes).transaction_id) 12 id;
+        id = eqb-true (length (parts_in bytes).tx) 12 id;
         spelled = (bytes_eq-Decides bytes (parts_bytes (parts_in bytes))).0 both.1;
       })
   of false is same = absurd (none-some p same)

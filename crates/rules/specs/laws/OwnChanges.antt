@@ -121,12 +121,12 @@ module _ (client : Addr) (m : ℕ) (xs ys : List (Option Held)) where
 
     -- ---- changes
 
-    allocation_alike : (user : ℕ) (transaction_id : List ℕ) (family : Family) (lifetime : ℕ)
-        → Both Made (allocation_change client user transaction_id family lifetime a) (allocation_change client user transaction_id family lifetime b)
-    allocation_alike user transaction_id family lifetime =
+    allocation_alike : (user : ℕ) (tx : List ℕ) (family : Family) (lifetime : ℕ)
+        → Both Made (allocation_change client user tx family lifetime a) (allocation_change client user tx family lifetime b)
+    allocation_alike user tx family lifetime =
         after_equal Made _ _ (ap (λ (o : Option Allocation). check (is_none o) Mismatch) (allocation_of-alike client a b alike)) _ _ (λ _ _.
         after_equal Made _ _ (ap (λ (o : Option ℕ). ok_or o Capacity) alike.next) _ _ (λ slot free.
-        let allocation : Allocation = record { slot = slot; client = client; family = family; user = user; transaction_id = transaction_id; lifetime = lifetime; end = m + lifetime } in
+        let allocation : Allocation = record { slot = slot; client = client; family = family; user = user; tx = tx; lifetime = lifetime; end = m + lifetime } in
         (refl, holds_other slot (fresh allocation) (ap (of_other client) (first_free-nothing a slot (some_ok (first_free a) Capacity slot free))) (is_same-itself client))))
 
     -- what follows from what a slot of the client's holds
@@ -161,7 +161,7 @@ module _ (client : Addr) (m : ℕ) (xs ys : List (Option Held)) where
     anew_alike : (config : Config) (user : ℕ) (p : Parts) → Both Given (allocate_anew config client user p a) (allocate_anew config client user p b)
     anew_alike config user p =
         after_same Given (acceptable config p) _ _ (λ given _.
-        after_related Given Given _ _ (given_of_change client a _ _ (allocation_alike user p.transaction_id given.0 given.1)) _ _ (λ x y made.
+        after_related Given Given _ _ (given_of_change client a _ _ (allocation_alike user p.tx given.0 given.1)) _ _ (λ x y made.
         (ap (λ (slot : ℕ). Allocated given.0 slot given.1) made.0, made.1)))
 
     beside_alike : (config : Config) (user : ℕ) (p : Parts) (o : Option Allocation) → Both Given (allocate_beside config o client user p a) (allocate_beside config o client user p b)
@@ -200,7 +200,7 @@ module _ (client : Addr) (m : ℕ) (xs ys : List (Option Held)) where
     bound_alike : (user : ℕ) (p : Parts) → Both Given (channel_bind client user p a) (channel_bind client user p b)
     bound_alike user p = after_allocation user _ _ (λ x own.
         after_same Given (required_value (number_of_value 2) (first_value p CHANNEL_NUMBER)) _ _ (λ number _.
-        after_same Given (required_value (address_in p.transaction_id) (first_value p XOR_PEER_ADDRESS)) _ _ (λ peer _.
+        after_same Given (required_value (address_in p.tx) (first_value p XOR_PEER_ADDRESS)) _ _ (λ peer _.
         after_same Given (check (is_between FIRST_CHANNEL LAST_CHANNEL number) BadRequest) _ _ (λ _ _.
         after_related Given Given _ _ (given_of_change client a _ _ (bind_alike x.slot number peer own)) _ _ (λ x y made. (refl, made.1))))))
 

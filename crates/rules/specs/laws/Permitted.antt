@@ -77,11 +77,11 @@ module _ (client : Addr) (rows : Rows) where
 
   abbrev sent_of_parts : Parts → ℕ → Option (Addr × List ℕ)
   sent_of_parts p slot = first_value p XOR_PEER_ADDRESS >>= λ value. first_value p DATA >>= λ content.
-      address_in p.transaction_id value >>= λ to. guard (has_permission slot to rows) >>= λ _. Some (to, content)
+      address_in p.tx value >>= λ to. guard (has_permission slot to rows) >>= λ _. Some (to, content)
 
   module _ (p : Parts) (a : Allocation) (own : allocation_of client rows ≡ Some a) where
     abbrev sent_to : List ℕ → List ℕ → Option (Addr × List ℕ)
-    sent_to value content = address_in p.transaction_id value >>= λ to. guard (has_permission a.slot to rows) >>= λ _. Some (to, content)
+    sent_to value content = address_in p.tx value >>= λ to. guard (has_permission a.slot to rows) >>= λ _. Some (to, content)
 
     of_permission : (peer : Addr) (content : List ℕ) (b : Bool) → has_permission a.slot peer rows ≡ b
         → MayGo ((guard b >>= λ _. Some (peer, content)) >>= λ pair. to_peer a pair)
@@ -95,7 +95,7 @@ module _ (client : Addr) (rows : Rows) where
 
     of_content : (value : List ℕ) (o : Option (List ℕ)) → MayGo ((o >>= λ content. sent_to value content) >>= λ pair. to_peer a pair)
     of_content value None = tt
-    of_content value (Some content) = of_address (address_in p.transaction_id value) content
+    of_content value (Some content) = of_address (address_in p.tx value) content
 
     of_value : (o : Option (List ℕ)) → MayGo ((o >>= λ value. first_value p DATA >>= λ content. sent_to value content) >>= λ pair. to_peer a pair)
     of_value None = tt
@@ -112,12 +112,12 @@ module _ (client : Addr) (rows : Rows) where
     of None own = tt
     of (Some a) own = of_understood p a own (all_understood p)
 
-module _ (slot : ℕ) (peer : Addr) (transaction_id : List ℕ) (rows : Rows) (content : List ℕ) where
+module _ (slot : ℕ) (peer : Addr) (tx : List ℕ) (rows : Rows) (content : List ℕ) where
   abbrev MayCome : Option Sending → Type 0
   MayCome sent = IfSome sent (IsPermitted [] (Peer slot peer) rows)
 
   abbrev carried : List ℕ
-  carried = message_to_client (channel_of slot peer rows) peer transaction_id content
+  carried = message_to_client (channel_of slot peer rows) peer tx content
 
   of_tests : (o : Option Allocation) → allocation_at slot rows ≡ o → (permits fits : Bool) → has_permission slot peer rows ≡ permits
       → MayCome (option_map (λ a. a.client) o
@@ -130,7 +130,7 @@ module _ (slot : ℕ) (peer : Addr) (transaction_id : List ℕ) (rows : Rows) (c
     permitted = or_first (has_permission slot peer rows) false permitted;
   }
 
-  pub peer_data_permitted : MayCome (peer_data_to slot peer transaction_id rows content)
+  pub peer_data_permitted : MayCome (peer_data_to slot peer tx rows content)
   peer_data_permitted =
       of_tests (allocation_at slot rows) refl (has_permission slot peer rows) (nat_le (length carried) MAX_DATAGRAM) refl
 
@@ -158,10 +158,10 @@ module _ (config : Config) (now : ℕ) (client : Addr) (rows : Rows) where
     of false = channel_data_permitted client (rows_at now rows) bytes
 
 -- each sending by the rules is permitted
-pub rules_permitted : (config : Config) (now : ℕ) (transaction_id : List ℕ) (from : Source) (rows : Rows) (bytes : List ℕ)
-    → IfSome (by_rules config now transaction_id from rows bytes).answer (IsPermitted [] from (rows_at now rows))
-rules_permitted config now transaction_id (Client client) rows bytes = from_client_permitted config now client rows bytes
-rules_permitted config now transaction_id (Peer slot peer) rows bytes = peer_data_permitted slot peer transaction_id (rows_at now rows) bytes
+pub rules_permitted : (config : Config) (now : ℕ) (tx : List ℕ) (from : Source) (rows : Rows) (bytes : List ℕ)
+    → IfSome (by_rules config now tx from rows bytes).answer (IsPermitted [] from (rows_at now rows))
+rules_permitted config now tx (Client client) rows bytes = from_client_permitted config now client rows bytes
+rules_permitted config now tx (Peer slot peer) rows bytes = peer_data_permitted slot peer tx (rows_at now rows) bytes
 
 -- ---- with addresses that count as others
 

@@ -12,7 +12,7 @@ IsPadded-prop a x y = λ i. record { kind = le_prop x.kind y.kind i; value = le_
 AreParts-prop : (p : Parts) → IsProp (AreParts p)
 AreParts-prop p x y = λ i. record {
   kind = le_prop x.kind y.kind i;
-  transaction_id = Coded-set coded_ℕ _ _ x.transaction_id y.transaction_id i;
+  tx = Coded-set coded_ℕ _ _ x.tx y.tx i;
   attributes = AllByRecursion-prop IsPadded IsPadded-prop p.attributes x.attributes y.attributes i;
   short = le_prop x.short y.short i;
 }

@@ -186,12 +186,12 @@ some_ok : {A : Type 0} (option : Option A) (refused : TableError) (x : A) → ok
 some_ok None refused x e = cc
 some_ok (Some y) refused x e = cc
 
-pub allocate-well_formed : (client : Addr) (user : ℕ) (transaction_id : List ℕ) (family : Family) (lifetime : ℕ) (rows : Rows) → AreWellFormed rows → IsIpv4Address client
-    → IfOk (allocation_change client user transaction_id family lifetime rows) (λ made. AreWellFormed made.1)
-allocate-well_formed client user transaction_id family lifetime rows are address =
+pub allocate-well_formed : (client : Addr) (user : ℕ) (tx : List ℕ) (family : Family) (lifetime : ℕ) (rows : Rows) → AreWellFormed rows → IsIpv4Address client
+    → IfOk (allocation_change client user tx family lifetime rows) (λ made. AreWellFormed made.1)
+allocate-well_formed client user tx family lifetime rows are address =
     checked (λ made. AreWellFormed made.1) (is_none (allocation_of client rows)) Mismatch _ (λ _.
     on_ok (λ made. AreWellFormed made.1) (ok_or (first_free rows) Capacity) _ (λ slot free.
-    let allocation : Allocation = record { slot = slot; client = client; family = family; user = user; transaction_id = transaction_id; lifetime = lifetime; end = rows.moment + lifetime } in
+    let allocation : Allocation = record { slot = slot; client = client; family = family; user = user; tx = tx; lifetime = lifetime; end = rows.moment + lifetime } in
     with_held-well_formed slot (fresh allocation) rows are (fresh-held_at slot allocation refl address)))
 
 pub refresh-well_formed : (slot lifetime : ℕ) (rows : Rows) → AreWellFormed rows → IfOk (refresh_change slot lifetime rows) (λ made. AreWellFormed made.1)

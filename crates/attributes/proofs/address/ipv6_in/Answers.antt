@@ -10,12 +10,12 @@ use Rattle.attributes.proofs.address.ipv6_in.Goals as goal
 pub returns-clause-spelled : goal.returns-clause-spelled
 returns-clause-spelled c =
     let number_is = c.read_u128.ensures ∙ ap (big_number 16) c.split_at.ensures.back in
-    let mask_fits : ipv6_mask c.args.transaction_id.now < 2 ^ 128 = subst (λ (k : ℕ). k < 2 ^ 128) c.ipv6_mask.ensures c.ipv6_mask.type_inv in
-    masked_back 16 c.args.value.now (ipv6_mask c.args.transaction_id.now) c.read_u128.result c.to_be_bytes.result c.requires c.type_inv.value number_is
+    let mask_fits : ipv6_mask c.args.tx.now < 2 ^ 128 = subst (λ (k : ℕ). k < 2 ^ 128) c.ipv6_mask.ensures c.ipv6_mask.type_inv in
+    masked_back 16 c.args.value.now (ipv6_mask c.args.tx.now) c.read_u128.result c.to_be_bytes.result c.requires c.type_inv.value number_is
     (c.to_be_bytes.ensures ∙ ap (λ (m : ℕ). bytes_high_first 16 (bit_xor c.read_u128.result m)) c.ipv6_mask.ensures)
-    (xor_lt 128 c.read_u128.result (ipv6_mask c.args.transaction_id.now) (below 16 c.args.value.now c.read_u128.result c.type_inv.value number_is) mask_fits)
+    (xor_lt 128 c.read_u128.result (ipv6_mask c.args.tx.now) (below 16 c.args.value.now c.read_u128.result c.type_inv.value number_is) mask_fits)
 
 pub returns-clause-ip : goal.returns-clause-ip
 returns-clause-ip c =
-    masked_is 16 c.args.value.now (ipv6_mask c.args.transaction_id.now) c.read_u128.result c.to_be_bytes.result (c.read_u128.ensures ∙ ap (big_number 16) c.split_at.ensures.back)
+    masked_is 16 c.args.value.now (ipv6_mask c.args.tx.now) c.read_u128.result c.to_be_bytes.result (c.read_u128.ensures ∙ ap (big_number 16) c.split_at.ensures.back)
     (c.to_be_bytes.ensures ∙ ap (λ (m : ℕ). bytes_high_first 16 (bit_xor c.read_u128.result m)) c.ipv6_mask.ensures)

@@ -8,5 +8,5 @@ abbrev pub invariant-loop-value : goal.invariant-loop-value
 invariant-loop-value l = record {
   can : (goal.iterator-loop-value).can_next l.value-iterator;
   finite : (goal.iterator-loop-value).is_finite l.value-iterator;
-  same : combined l.family l.found (addresses_in l.message.transaction_id l.value-iterator) ≡ are_of l.family l.message;
+  same : combined l.family l.found (addresses_in l.message.tx l.value-iterator) ≡ are_of l.family l.message;
 }

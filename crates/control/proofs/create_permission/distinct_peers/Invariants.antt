@@ -11,6 +11,6 @@ abbrev pub invariant-loop-value : goal.invariant-loop-value
 invariant-loop-value l = record {
   can : (goal.iterator-loop-value).can_next l.value-iterator;
   finite : (goal.iterator-loop-value).is_finite l.value-iterator;
-  collected : Collected l.peers.items (filter_map (address_in l.message.transaction_id) l.value-iterator) (peers_of l.message);
-  families : (f : Family) → list_all (is_of_family f) (peers_of l.message) ≡ true → AreOf f l.peers.items (filter_map (address_in l.message.transaction_id) l.value-iterator);
+  collected : Collected l.peers.items (filter_map (address_in l.message.tx) l.value-iterator) (peers_of l.message);
+  families : (f : Family) → list_all (is_of_family f) (peers_of l.message) ≡ true → AreOf f l.peers.items (filter_map (address_in l.message.tx) l.value-iterator);
 }

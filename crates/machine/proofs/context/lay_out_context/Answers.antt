@@ -11,5 +11,5 @@ returns c =
     let old : List ℕ = c.args.area.now in
     let size : ℕ = c.args.size in
     c.lay_out.ensures
-    ∙ (λ i. overlay STACK_BYTES (pointers size ++ context_fields size (c.source_record-source.ensures.narrow i) (c.source_record-source.ensures.wide i) c.args.context.now.transaction_id (c.side_number.ensures i)) old)
+    ∙ (λ i. overlay STACK_BYTES (pointers size ++ context_fields size (c.source_record-source.ensures.narrow i) (c.source_record-source.ensures.wide i) c.args.context.now.tx (c.side_number.ensures i)) old)
     ∙ (λ i. overlay STACK_BYTES (pointers size ++ sym (fields_of_context (context_of c.args.context.now) size) i) old)

@@ -138,7 +138,7 @@ const FROM_V6: Context = Context {
         ip: [0x20, 1, 0x0d, 0xb8, 1, 2, 3, 4, 5, 6, 7, 8, 9, 10, 11, 12],
         port: 5000,
     },
-    transaction_id: [0xff; 12],
+    tx: [0xff; 12],
 };
 
 /// A program that reads a field, a context, and the verdict of the run over a datagram of two bytes.

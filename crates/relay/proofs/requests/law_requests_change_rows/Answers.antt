@@ -3,6 +3,6 @@ use Rattle.relay.proofs.requests.law_requests_change_rows.Goals as goal
 
 pub returns : goal.returns
 returns c = record {
-  datagrams = λ programs config now transaction_id from rows bytes. datagram_changes programs config now transaction_id rows from bytes;
+  datagrams = λ programs config now tx from rows bytes. datagram_changes programs config now tx rows from bytes;
   events = λ programs config s events. events_change programs config s events;
 }

@@ -7,5 +7,5 @@ pub returns-in-Client : goal.returns-in-Client
 returns-in-Client c = λ config.
     c.discard_of_client.ensures config
     ∙ ap (λ (s : Source). discard_in
-    (ruled_disposition config c.args.moment c.args.meta.now.transaction_id s c.args.tables.now c.args.datagram.now))
+    (ruled_disposition config c.args.moment c.args.meta.now.tx s c.args.tables.now c.args.datagram.now))
     (sym c.in-Client.is)

@@ -14,7 +14,7 @@ use Rattle.relay.proofs.relay.Relay.grounds.Goals as goal
 
 -- the slot, at the moment of the step
 slot_is : (c : goal.After-last_slot_over-slot) → c.last_slot_over-slot.result
-    ≡ exit_slot (record { client = c.self.inside.client; peer = c.self.inside.peer; confinement = c.self.inside.confinement }) c.args.meta.now.transaction_id
+    ≡ exit_slot (record { client = c.self.inside.client; peer = c.self.inside.peer; confinement = c.self.inside.confinement }) c.args.meta.now.tx
     c.args.meta.now.from
     (rows_at c.moment_of-moment.result c.self.inside.tables) (take c.args.n (room_of c.self.inside.frame))
 slot_is c =
@@ -31,10 +31,10 @@ returns-clause-grounds c = λ config.
     let given = c.args.meta.now in
     (λ i. record {
       ruled = (c.discard_by_rules-ruled.ensures config
-          ∙ (λ j. discard_in (ruled_disposition config (c.moment_of-moment.ensures j) given.transaction_id given.from
+          ∙ (λ j. discard_in (ruled_disposition config (c.moment_of-moment.ensures j) given.tx given.from
           c.self.inside.tables (take c.args.n (c.room.ensures.value j))))) i;
       slot = (slot_is c
-          ∙ (λ j. exit_slot (record { client = c.self.inside.client; peer = c.self.inside.peer; confinement = c.self.inside.confinement }) given.transaction_id
+          ∙ (λ j. exit_slot (record { client = c.self.inside.client; peer = c.self.inside.peer; confinement = c.self.inside.confinement }) given.tx
           given.from
           (rows_at (c.moment_of-moment.ensures j) c.self.inside.tables) (take c.args.n (room_of c.self.inside.frame)))) i;
     })

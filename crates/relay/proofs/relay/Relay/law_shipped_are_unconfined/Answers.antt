@@ -18,9 +18,9 @@ returns c = λ are.
     let moment = moment_of r.greatest given.now in
     record {
       outcome = ap (outcome_at moment (state_of r))
-          (reply_unconfined c.law_client_serves.ensures c.law_peer_serves.ensures r.programs are (with_nonce r.config r.config.nonce.bytes) moment given.transaction_id r.rows
+          (reply_unconfined c.law_client_serves.ensures c.law_peer_serves.ensures r.programs are (with_nonce r.config r.config.nonce.bytes) moment given.tx r.rows
           (datagram_at r c.args.n) formed c.law_are_bytes.ensures datagram given.from c.law_is_source.ensures);
       disposition =
-          disposition_unconfined c.law_client_serves.ensures c.law_peer_serves.ensures r.programs are r.config moment given.transaction_id r.rows
+          disposition_unconfined c.law_client_serves.ensures c.law_peer_serves.ensures r.programs are r.config moment given.tx r.rows
           (datagram_at r c.args.n) formed c.law_are_bytes.ensures datagram given.from c.law_is_source.ensures;
     }

@@ -115,22 +115,22 @@ start_spec 𝓤 𝓛 𝓜 𝓡 wired =
     (λ κs. (mut_slice_vals, (uint_vals w16, (array_vals (uint_vals w8), tt))))
     (λ κs. (mut_slice_Tells (named 0) κs.0 u8, (uint_Tells w16, (Array-Tells u8 (uint_vals w8) (uint_Tells w8) 12, tt))))
     (λ κs qs bounds a _ are.
-    let token = flft κs.0 qs.0 in let buffer = a.0 in let kind = a.1.0 in let transaction_id = a.1.1.0 in let room = are.0.0.1 in let twelve = are.1.1.0.1.0.1 in
-    let y : W.Ghost = ((κs, qs, bounds, a, (mut_slice_vals buffer, (uint_vals w16 kind, (array_vals (uint_vals w8) transaction_id, tt)))), tt) in
+    let token = flft κs.0 qs.0 in let buffer = a.0 in let kind = a.1.0 in let tx = a.1.1.0 in let room = are.0.0.1 in let twelve = are.1.1.0.1.0.1 in
+    let y : W.Ghost = ((κs, qs, bounds, a, (mut_slice_vals buffer, (uint_vals w16 kind, (array_vals (uint_vals w8) tx, tt)))), tt) in
     -- the end, for either answer
-    let out : (v : Val) (r : (Answer κs).Denot) → IfOk r (λ b. IsBegun kind transaction_id buffer.now b.buffer.now) → IfOk r (λ b. b.buffer.ghost_name ≡ buffer.ghost_name) → OnErr r (length buffer.now < 20)
+    let out : (v : Val) (r : (Answer κs).Denot) → IfOk r (λ b. IsBegun kind tx buffer.now b.buffer.now) → IfOk r (λ b. b.buffer.ghost_name ≡ buffer.ghost_name) → OnErr r (length buffer.now < 20)
     → Sq 𝓛 (‵ ((Answer κs).own_val r (v ∷ [])) ∷ ‵ (Rests κs buffer r) ∷ ‵ token ∷ []) (prop (W.post y v)) = λ v r written same full.
     suffices ! _ (ends_at 𝓛 f.ended stayed c y v r (tt, (tt, (tt, tt))) (tt, (tt, (tt, tt)))) $
     nothing ! $ nothing ! $ fjoin ! $ nothing ! $ fjoin ! $ nothing ! $ fjoin ! $ join ! $ nothing ! $ move ! (3 ∷ 0 ∷ []) $ join ! $ join ! $ frame ! $ frame ! $
     use0 𝓛 (raw (fact 𝓤 _)) (fact_i 𝓤 _ (emp 𝓤) written) $ frame ! $ use0 𝓛 (raw (fact 𝓤 _)) (fact_i 𝓤 _ (emp 𝓤) same) $ frame ! $ by ! (fact_i 𝓤 _ (emp 𝓤) full) in
     qed 𝓛 (raw (on_entry 𝓛 f.signature κs qs a y.0.4) ∷ raw (fact 𝓤 (kind < 0x4000)) ∷ []) ∵ move ! (1 ∷ []) $ heard ! _ (λ small.
     enter ! _ _ _ _ _ $
-    alloc_all ! (λ l. pass_all ! refl ((tt, (tt, (record { fits = room.0 }, tt))), ((tt, record { fits = are.1.0.1 }), ((Array-Typed u8 (uint_Lawful 𝓛 w8).typed 12 transaction_id _ are.1.1.0).0, tt))) $
+    alloc_all ! (λ l. pass_all ! refl ((tt, (tt, (record { fits = room.0 }, tt))), ((tt, record { fits = are.1.0.1 }), ((Array-Typed u8 (uint_Lawful 𝓛 w8).typed 12 tx _ are.1.1.0).0, tt))) $
     -- buffer.len() >= HEADER_BYTES
     sets ! (of_opd ! (get_in ! (fld ! refl (stop !)) (sub ! 1 refl (whole !)))) refl (tt, record { fits = room.0 }) $
     sets ! (bin ! (lit ! tt) (get ! refl) tt) refl (tt, tt) $
     first ! $ branches ! (get ! refl)
-    -- Ok(Builder::with_header(buffer, kind, transaction_id))
+    -- Ok(Builder::with_header(buffer, kind, tx))
     (λ long. sets ! (addr ! (from ! (fld ! refl (hop ! (look_in_at ! 1 (sub ! 0 refl (whole !))) (stop !))))) refl (tt, tt) $
     sets ! (agg ! (and_then ! (get ! refl) (and_then ! (get_in ! (fld ! refl (stop !)) (sub ! 1 refl (whole !))) (no_more !)))) refl (tt, (tt, (record { fits = room.0 }, tt))) $
     use0 𝓛 (raw (fact 𝓤 (20 ≤ length buffer.now))) (fact_i 𝓤 _ (emp 𝓤) (leb→le 20 (length buffer.now) long)) $ use0 𝓛 (raw (fact 𝓤 (kind < 0x4000))) (fact_i 𝓤 _ (emp 𝓤) small) $ join ! $ move ! (1 ∷ 0 ∷ []) $
@@ -138,7 +138,7 @@ start_spec 𝓤 𝓛 𝓜 𝓡 wired =
     calls_at ! (framed 𝓤 𝓛.H 𝓜 𝓣) G (met 𝓤 𝓛 𝓜 𝓡 (code.calls-stun::building::Builder::with_header 𝓡.env wired)) y
     (and_then ! (get ! refl) (and_then ! (get ! refl) (and_then ! (get ! refl) (no_more !)))) (λ v.
     use1 𝓛 (later (some (λ (b : (Builder κs).Denot). ((‵ token ⊛ ‵ ftrue) ⊛ ‵ ((Builder κs).own_val b (v ∷ []))) ⊛
-    some (λ (ws : Lasts g.ended κs a). ‵ (lasts g.ended κs a ws) ⊛ raw (fact 𝓤 (IsBegun kind transaction_id buffer.now b.buffer.now)) ⊛ raw (fact 𝓤 (b.buffer.ghost_name ≡ buffer.ghost_name)))))) (id⊢ 𝓤 _) $
+    some (λ (ws : Lasts g.ended κs a). ‵ (lasts g.ended κs a ws) ⊛ raw (fact 𝓤 (IsBegun kind tx buffer.now b.buffer.now)) ⊛ raw (fact 𝓤 (b.buffer.ghost_name ≡ buffer.ghost_name)))))) (id⊢ 𝓤 _) $
     await ! tt $ pick ! (λ b. split ! $ split ! $ split ! $ move ! (2 ∷ []) $ peeks ! (Builder κs) _ (shows 𝓛 (Builder κs)) b (v ∷ []) (λ is.
     let laws = named_lft 1 0 tt κs in let spelled = (lowers laws).val_is b (v ∷ []) is in
     let typed : WT (lowered b) = subst WT (ap only spelled) (((the_row_laws laws).lawful 𝓛).typed b (v ∷ []) is).0.1 in

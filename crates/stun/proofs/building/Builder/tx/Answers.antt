@@ -1,7 +1,7 @@
 use Rattle.std.proofs.Common.{take, ap, ◌∙◌}
 use Rattle.stun.specs.Builders.{parts_of}
 use Rattle.stun.proofs.Writing.{id_of}
-use Rattle.stun.proofs.building.Builder.transaction_id.Goals as goal
+use Rattle.stun.proofs.building.Builder.tx.Goals as goal
 
 pub returns : goal.returns
 returns c =
