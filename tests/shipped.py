@@ -3,8 +3,9 @@
     tests/shipped.py [--write]
 
 The text of a program, examples/relay/client.s or peer.s, is its one source. `relayd assemble` makes its bytes, which
-this writes to the constant of crates/programs/src/client.rt or peer.rt, an instruction a line; and from the lines of the text
-it makes the list of instructions that proofs compute with, crates/programs/specs/Client.antt or Peer.antt.
+this writes to the constant of crates/programs/src/client.rt or peer.rt, an instruction a line, beside the text without its
+comments; and from the lines of the text it makes the list of instructions that proofs compute with,
+crates/programs/specs/Client.antt or Peer.antt.
 """
 
 import pathlib
@@ -125,15 +126,26 @@ def definition(side, lines, labels):
             f"abbrev pub {side}_program : List Insn\n{side}_program =\n    {listed}\n")
 
 
-def constant(side, lines, encoded):
-    """Returns the file of code that has the bytes of a program."""
+def code(text):
+    """Yields the lines of a text without comments."""
+    for line in text.splitlines():
+        left = line.partition(";")[0].rstrip()
+        if left:
+            yield left
+
+
+def constant(side, text, lines, encoded):
+    """Returns the file of code that has the bytes of a program, and its text."""
     rows, start = [], 0
     for line in lines:
         end = start + (16 if line.startswith(WIDE) else 8)
         rows.append("    " + " ".join(f"0x{byte:02x}," for byte in encoded[start:end]) + f" // {line}\n")
         start = end
+    written = "\n".join(code(text)).strip()
     return (f"//! The program of the {TITLES[side]}. tests/shipped.py makes this file.\n\n{DOCS[side]}"
-            f"pub const {side.upper()}: &[u8] = &[\n{''.join(rows)}];\n")
+            f"pub const {side.upper()}: &[u8] = &[\n{''.join(rows)}];\n\n"
+            f"/// Returns the text of [`{side.upper()}`] in assembly, without its comments. It assembles to these bytes.\n"
+            f"pub fn {side}_text() -> &'static str {{\n    \"{written}\n\"\n}}\n")
 
 
 def made_of_texts():
@@ -143,7 +155,7 @@ def made_of_texts():
             text = (TOP / "examples" / "relay" / f"{side}.s").read_text(encoding="utf-8")
             lines, labels = lines_of(text)
             encoded = assembled(pathlib.Path(name), side, text).read_bytes()
-            yield PROGRAMS / "src" / f"{side}.rt", constant(side, lines, encoded)
+            yield PROGRAMS / "src" / f"{side}.rt", constant(side, text, lines, encoded)
             yield PROGRAMS / "specs" / f"{side.title()}.antt", definition(side, lines, labels)
 
 

@@ -125,3 +125,134 @@ pub const CLIENT: &[u8] = &[
     0xb7, 0x00, 0x00, 0x00, 0x01, 0x00, 0x00, 0x00, // mov r0, 1
     0x95, 0x00, 0x00, 0x00, 0x00, 0x00, 0x00, 0x00, // exit
 ];
+
+/// Returns the text of [`CLIENT`] in assembly, without its comments. It assembles to these bytes.
+pub fn client_text() -> &'static str {
+    "mov r6, r1
+    ldxdw r2, [r1+0]
+    ldxdw r3, [r1+8]
+    ldxdw r9, [r1+16]
+    mov r0, 0
+    mov r4, r2
+    add r4, 1
+    jgt r4, r3, end
+    ldxb r5, [r2+0]
+    jlt r5, 64, stun
+    jgt r5, 127, end
+    mov r4, r2
+    add r4, 4
+    jgt r4, r3, end
+    ldxh r7, [r2+0]
+    be16 r7
+    ldxh r8, [r2+2]
+    be16 r8
+    mov r4, r8
+    add r4, 4
+    jgt r4, r9, end
+    mov r2, r7
+    mov r3, r10
+    add r3, -8
+    call 1
+    jeq r0, 0, wide
+    mov r7, 68
+    ja send
+wide:
+    mov r1, r6
+    mov r2, r7
+    mov r3, r10
+    add r3, -24
+    call 6
+    jeq r0, 0, end
+    mov r1, r6
+    mov r2, 68
+    mov r3, r8
+    call 4
+    mov r1, r6
+    mov r2, r10
+    add r2, -24
+    call 9
+    mov r0, 2
+    exit
+stun:
+    mov r4, r2
+    add r4, 36
+    jgt r4, r3, pass
+    ldxh r5, [r2+0]
+    jne r5, 0x1600, pass
+    ldxw r5, [r2+4]
+    jne r5, 0x42a41221, pass
+    ldxh r5, [r2+2]
+    be16 r5
+    add r5, 20
+    jne r5, r9, pass
+    ldxw r5, [r2+20]
+    jne r5, 0x08001200, data_first
+    ldxh r5, [r2+32]
+    jne r5, 0x1300, pass
+    ldxh r8, [r2+34]
+    be16 r8
+    mov r4, r8
+    add r4, 3
+    rsh r4, 2
+    lsh r4, 2
+    add r4, 36
+    jne r4, r9, pass
+    mov r7, 100
+    add r2, 24
+    ja address
+data_first:
+    ldxh r5, [r2+20]
+    jne r5, 0x1300, pass
+    ldxh r8, [r2+22]
+    be16 r8
+    mov r4, r8
+    add r4, 3
+    rsh r4, 2
+    lsh r4, 2
+    mov r5, r4
+    add r5, 36
+    jne r5, r9, pass
+    add r2, r4
+    mov r5, r2
+    add r5, 36
+    jgt r5, r3, pass
+    ldxw r5, [r2+24]
+    jne r5, 0x08001200, pass
+    mov r7, 88
+    add r2, 28
+address:
+    ldxb r4, [r2+1]
+    jne r4, 1, end
+    sth [r10-8], 0x0100
+    ldxh r4, [r2+2]
+    be16 r4
+    xor r4, 0x2112
+    be16 r4
+    stxh [r10-6], r4
+    ldxw r4, [r2+4]
+    be32 r4
+    xor r4, 0x2112a442
+    be32 r4
+    stxw [r10-4], r4
+    mov r1, r6
+    mov r2, r10
+    add r2, -8
+    call 3
+    jeq r0, 0, end
+send:
+    mov r1, r6
+    mov r2, r7
+    mov r3, r8
+    call 4
+    mov r1, r6
+    mov r2, r10
+    add r2, -8
+    call 5
+    mov r0, 2
+    exit
+pass:
+    mov r0, 1
+end:
+    exit
+"
+}

@@ -22,8 +22,8 @@ use stun::law_message_in_has_the_parts;
 /// does, and sends nothing for any other datagram.
 pub fn law_client_serves()
     ensures { (code : List Insn) → Encodes code CLIENT.now → IsSafe code
-        → (client : Addr) (transaction_id : List ℕ) (rows : Rows) (datagram : List ℕ)
-        → IsRelayStart client transaction_id rows datagram → ServesClient code transaction_id client rows datagram }
+        → (client : Addr) (tx : List ℕ) (rows : Rows) (datagram : List ℕ)
+        → IsRelayStart client tx rows datagram → ServesClient code tx client rows datagram }
 {
     law_bytes_encode_one_program();
     law_message_in_has_the_parts();
@@ -44,8 +44,8 @@ pub fn law_client_tests_plain_sends()
 /// itself, as the rules say.
 pub fn law_peer_serves()
     ensures { (code : List Insn) → Encodes code PEER.now → IsSafe code
-        → (slot : ℕ) (peer : Addr) (transaction_id : List ℕ) (rows : Rows) (datagram : List ℕ)
-        → IsRelayStart peer transaction_id rows datagram → ServesPeer code transaction_id slot peer rows datagram }
+        → (slot : ℕ) (peer : Addr) (tx : List ℕ) (rows : Rows) (datagram : List ℕ)
+        → IsRelayStart peer tx rows datagram → ServesPeer code tx slot peer rows datagram }
 {
     law_bytes_encode_one_program();
 }

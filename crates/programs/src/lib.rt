@@ -6,7 +6,7 @@ mod laws;
 mod peer;
 mod verdict;
 
-pub use client::CLIENT;
+pub use client::{CLIENT, client_text};
 pub use laws::{law_client_serves, law_client_tests_plain_sends, law_peer_serves};
-pub use peer::PEER;
+pub use peer::{PEER, peer_text};
 pub use verdict::{DISCARDS, PASSES, SENDS, law_verdicts};

@@ -118,3 +118,127 @@ pub const PEER: &[u8] = &[
     0xb7, 0x00, 0x00, 0x00, 0x00, 0x00, 0x00, 0x00, // mov r0, 0
     0x95, 0x00, 0x00, 0x00, 0x00, 0x00, 0x00, 0x00, // exit
 ];
+
+/// Returns the text of [`PEER`] in assembly, without its comments. It assembles to these bytes.
+pub fn peer_text() -> &'static str {
+    "mov r6, r1
+    ldxdw r7, [r1+24]
+    jne r7, 0, narrow
+    ldxdw r7, [r1+48]
+    stxdw [r10-24], r7
+    ldxdw r2, [r1+56]
+    stxdw [r10-16], r2
+    ldxw r2, [r1+64]
+    stxw [r10-8], r2
+    mov r2, r10
+    add r2, -24
+    call 8
+    jeq r0, 0, end
+    mov r1, r6
+    mov r2, r10
+    add r2, -24
+    call 7
+    ldxdw r9, [r6+0]
+    ldxdw r8, [r6+16]
+    jne r0, 0, channel
+    jgt r8, 65456, none
+    mov r3, r8
+    add r3, 3
+    rsh r3, 2
+    lsh r3, 2
+    sth [r9-48], 0x1700
+    mov r2, r3
+    add r2, 28
+    be16 r2
+    stxh [r9-46], r2
+    stw [r9-44], 0x42a41221
+    ldxdw r2, [r6+32]
+    stxdw [r9-40], r2
+    ldxw r4, [r6+40]
+    stxw [r9-32], r4
+    stw [r9-28], 0x14001200
+    lddw r5, 0x42a4122112210000
+    xor r7, r5
+    stxdw [r9-24], r7
+    ldxdw r5, [r6+56]
+    xor r5, r2
+    stxdw [r9-16], r5
+    ldxw r5, [r6+64]
+    xor r5, r4
+    stxw [r9-8], r5
+    sth [r9-4], 0x1300
+    mov r2, r8
+    be16 r2
+    stxh [r9-2], r2
+    mov r2, 16
+    add r3, 48
+    ja send
+narrow:
+    stxdw [r10-8], r7
+    mov r2, r10
+    add r2, -8
+    call 3
+    jeq r0, 0, end
+    mov r1, r6
+    mov r2, r10
+    add r2, -8
+    call 2
+    ldxdw r9, [r6+0]
+    ldxdw r8, [r6+16]
+    jeq r0, 0, indication
+channel:
+    jgt r8, 65503, none
+    be16 r0
+    stxh [r9-4], r0
+    mov r2, r8
+    be16 r2
+    stxh [r9-2], r2
+    mov r2, 60
+    mov r3, r8
+    add r3, 4
+    ja send
+indication:
+    jgt r8, 65468, none
+    mov r3, r8
+    add r3, 3
+    rsh r3, 2
+    lsh r3, 2
+    sth [r9-36], 0x1700
+    mov r2, r3
+    add r2, 16
+    be16 r2
+    stxh [r9-34], r2
+    stw [r9-32], 0x42a41221
+    ldxdw r2, [r6+32]
+    stxdw [r9-28], r2
+    ldxw r2, [r6+40]
+    stxw [r9-20], r2
+    stw [r9-16], 0x08001200
+    sth [r9-12], 0x0100
+    ldxh r2, [r10-6]
+    be16 r2
+    xor r2, 0x2112
+    be16 r2
+    stxh [r9-10], r2
+    ldxw r2, [r10-4]
+    be32 r2
+    xor r2, 0x2112a442
+    be32 r2
+    stxw [r9-8], r2
+    sth [r9-4], 0x1300
+    mov r2, r8
+    be16 r2
+    stxh [r9-2], r2
+    mov r2, 28
+    add r3, 36
+send:
+    mov r1, r6
+    call 4
+    mov r0, 2
+end:
+    exit
+none:
+    mov r0, 0
+    exit
+"
+}

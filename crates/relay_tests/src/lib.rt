@@ -11,4 +11,6 @@ mod reasons;
 mod sockets;
 #[cfg(test)]
 mod story;
+#[cfg(test)]
+mod texts;
 pub mod wire;

@@ -1,6 +1,7 @@
 //! A relay with the shipped programs, from the first request to the end of a channel. The messages and codes are worked by
 //! hand, and with the HMAC of Python's library.
 
+use crate::texts::check_texts;
 use basics::streams::{Input, Output};
 use control::Config;
 use relay::{Relay, ReplayError};
@@ -167,6 +168,7 @@ fn check_each(rt: &impl Abort, alloc: Global) -> Result<(), Fail> {
 
 #[test]
 fn each_event_has_its_answer(rt: HostRuntime) -> Result<(), Fail> {
+    check_texts(&rt, rt.alloc())?;
     check_each(&rt, rt.alloc())?;
     let mut events = String::new(rt.alloc());
     let mut answers = String::new(rt.alloc());
