@@ -1,96 +1,91 @@
-//! Datagrams that the system dropped, by its tables of UDP sockets.
+//! Datagrams that the system dropped since a socket's buffer was full, by its own counters.
 
-use server::Ports;
 use std::alloc::{AllocError, Global};
 use std::io::Read;
 use std::rt::Files;
 use std::{fs, str};
 
-/// The tables of the sockets of both families. The second word of a line is the local address, with its port in hexadecimal
-/// digits after a colon, and the last one is how many datagrams were dropped.
-const TABLES: [&str; 2] = ["/proc/net/udp", "/proc/net/udp6"];
+/// The counters of IPv4: a line with the names of those of UDP, and then one with their values.
+const COUNTERS: &str = "/proc/net/snmp";
 
-/// The longest line of a table that is looked at. Those of Linux have at most some 200 bytes.
-const LONGEST: usize = 512;
+/// What both lines begin with.
+const UDP: &str = "Udp:";
 
-/// How many bytes of a table are read at once.
-const CHUNK: usize = 4_096;
+/// The counter of datagrams that found no room in the buffer of their socket.
+const DROPPED: &str = "RcvbufErrors";
 
-/// The datagrams that the system dropped at the sockets that have the ports of a server.
+/// The counters of IPv6, each with its value on a line of its own.
+const COUNTERS6: &str = "/proc/net/snmp6";
+
+/// The same counter for IPv6.
+const DROPPED6: &str = "Udp6RcvbufErrors";
+
+/// How many bytes of a file are read. Those of Linux have some 2,000 and 6,000, whatever sockets there are.
+const ROOM: usize = 16_384;
+
+/// The datagrams that the system dropped at full buffers, in the network namespace of the server and since it began.
+/// See docs/DECISIONS.md, "What a server can count".
 #[derive(Drop)]
 pub(crate) struct Drops {
-    ports: Ports,
-    /// What has been read of the next line.
-    line: Vec<u8>,
+    /// What is read of a file.
+    text: Vec<u8>,
+    /// How many were dropped before the server began.
+    before: u64,
 }
 
-/// Returns the datagrams that were dropped at the socket of a line of a table, if it has one of the ports.
-fn dropped_at(line: &[u8], ports: &Ports) -> Option<u64> {
-    let mut words = str::from_utf8(line).ok()?.split_whitespace();
-    let (_, port) = words.nth(1)?.split_once(':')?;
-    let port = u16::from_str_radix(port, 16).ok()?;
-    if !ports.contains(port) {
-        return None;
-    }
-    words.last()?.parse().ok()
+/// Returns the value of the counter of UDP in the text of the counters of IPv4.
+fn dropped_in(text: &str) -> Option<u64> {
+    let mut lines = text.lines();
+    let names = lines.find(|line| line.starts_with(UDP))?;
+    let values = lines.find(|line| line.starts_with(UDP))?;
+    let index = names.split_whitespace().position(|name| name == DROPPED)?;
+    values.split_whitespace().nth(index)?.parse().ok()
+}
+
+/// Returns the value of the counter in the text of the counters of IPv6.
+fn dropped6_in(text: &str) -> Option<u64> {
+    let line = text.lines().find(|line| line.starts_with(DROPPED6))?;
+    line.split_whitespace().nth(1)?.parse().ok()
 }
 
 impl Drops {
-    /// Takes the memory for a line.
+    /// Takes the memory for the text of a file, and notes what was dropped so far.
     ///
     /// # Errors
     /// Where memory runs out.
-    pub(crate) fn new(alloc: Global, ports: Ports) -> Result<Drops, AllocError> {
-        let line = Vec::with_capacity(alloc, LONGEST)?;
-        Ok(Drops { ports, line })
+    pub(crate) fn new<R: Files + AllocGlobal>(rt: &R) -> Result<Drops, AllocError> {
+        let text = Vec::with_capacity(rt.alloc(), ROOM)?;
+        let mut drops = Drops { text, before: 0 };
+        drops.before = drops.count(rt).unwrap_or(0);
+        Ok(drops)
     }
 
-    /// Adds a byte of a table. Returns the datagrams that were dropped at the socket of the line that it ends, 0 where it ends
-    /// none. A line that is too long is cut.
-    fn add(&mut self, byte: u8) -> u64 {
-        if byte != b'\n' {
-            if self.line.len() < LONGEST {
-                let _ = self.line.push(byte);
-            }
-            return 0;
-        }
-        let dropped = dropped_at(&self.line, &self.ports).unwrap_or(0);
-        self.line.clear();
-        dropped
-    }
-
-    /// Returns the datagrams that were dropped at the sockets of the lines that bytes of a table end.
-    fn add_all(&mut self, bytes: &[u8]) -> u64 {
-        let mut sum: u64 = 0;
-        for byte in bytes {
-            sum = sum.saturating_add(self.add(*byte));
-        }
-        sum
-    }
-
-    /// Reads a table to its end. `None` where it can't be read.
-    fn read_table<F: Read + Drop>(&mut self, mut file: F) -> Option<u64> {
-        self.line.clear();
-        let mut chunk = [0; CHUNK];
-        let mut sum: u64 = 0;
-        for _ in 0..u64::MAX {
+    /// Reads a file as far as there is room. `None` where it can't be read, or is no text.
+    fn read<R: Files>(&mut self, rt: &R, path: &str) -> Option<&str> {
+        let mut file = fs::open(rt, path).ok()?;
+        self.text.clear();
+        let mut chunk = [0; 4_096];
+        for _ in 0..ROOM {
             let n = file.read(&mut chunk).ok()?;
-            if n == 0 {
+            let read = chunk.get(..n)?;
+            if n == 0 || self.text.len() + n > ROOM {
                 break;
             }
-            sum = sum.saturating_add(self.add_all(chunk.get(..n)?));
+            let _ = self.text.extend_from_slice(read);
         }
-        Some(sum)
+        str::from_utf8(&self.text).ok()
     }
 
-    /// Returns how many datagrams the system dropped at the sockets that have the ports of a server, since they were bound:
-    /// mostly where their buffers were full. `None` where the system doesn't say. It takes no memory.
+    /// Returns how many datagrams the system dropped since the server began: those for any UDP socket of the network namespace
+    /// whose buffer was full, of both families. `None` where the system doesn't say. It takes no memory, and its work doesn't
+    /// depend on how many sockets there are.
     pub(crate) fn count<R: Files>(&mut self, rt: &R) -> Option<u64> {
-        let mut sum: u64 = 0;
-        for table in TABLES {
-            let file = fs::open(rt, table).ok()?;
-            sum = sum.saturating_add(self.read_table(file)?);
-        }
-        Some(sum)
+        let dropped = dropped_in(self.read(rt, COUNTERS)?)?;
+        let dropped6 = match self.read(rt, COUNTERS6) {
+            Some(text) => dropped6_in(text).unwrap_or(0),
+            None => 0,
+        };
+        let all = dropped.saturating_add(dropped6);
+        Some(all.saturating_sub(self.before))
     }
 }

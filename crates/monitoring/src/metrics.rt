@@ -108,7 +108,7 @@ impl Family {
     const DROPPED: Family = Family {
         name: "relayd_datagrams_dropped_total",
         kind: "counter",
-        help: "Datagrams that the system dropped at sockets with the ports of the server.",
+        help: "Datagrams that the system dropped at UDP sockets with full buffers since the start.",
     };
 
     const SLOTS: Family = Family {

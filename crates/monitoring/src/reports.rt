@@ -4,8 +4,8 @@ use crate::counters::{CounterLine, Faults};
 use crate::drops::Drops;
 use crate::metrics::{Metrics, MetricsFile};
 use crate::server_log::{EndReason, ServerLog};
-use server::{Counters, Ports, Timer};
-use std::alloc::{AllocError, Global};
+use server::{Counters, Timer};
+use std::alloc::AllocError;
 use std::io::{self, Write};
 use std::rt::Files;
 use std::time::Duration;
@@ -37,21 +37,20 @@ pub struct Reports<'a> {
 }
 
 impl<'a> Reports<'a> {
-    /// Returns what a server with these ports reports from a time on: its counters each so many seconds, its metrics and its log,
-    /// as far as they are wanted.
+    /// Returns what a server reports from a time on: its counters each so many seconds, its metrics and its log, as far as they
+    /// are wanted.
     ///
     /// # Errors
     /// Where memory runs out.
-    pub fn new(
-        alloc: Global,
-        ports: Ports,
+    pub fn new<R: Files + AllocGlobal>(
+        rt: &R,
         stats: Option<u64>,
         metrics: Option<MetricsFile<'a>>,
         log: Option<ServerLog>,
         now: Duration,
     ) -> Result<Reports<'a>, AllocError> {
         Ok(Reports {
-            drops: Drops::new(alloc, ports)?,
+            drops: Drops::new(rt)?,
             printed: Faults::NONE,
             faults: Timer::new(now, Duration::from_secs(FAULTS_PERIOD)),
             stats: stats.map(|seconds| Timer::new(now, Duration::from_secs(seconds))),

@@ -167,24 +167,16 @@ fn log_of(
     }
 }
 
-/// Returns what a server reports, over its sockets.
-fn reports_of<'a>(
-    alloc: Global,
+/// Returns what a server reports.
+fn reports_of<'a, R: Files + AllocGlobal>(
+    rt: &R,
     server_options: &ServerOptions<'a>,
     options: &Options<'_>,
-    sockets: &Sockets,
     now: Duration,
 ) -> Result<Reports<'a>, CommandError<'static>> {
-    let metrics = metrics_file(alloc, server_options, options, now)?;
-    let log = log_of(alloc, server_options, options, now)?;
-    match Reports::new(
-        alloc,
-        sockets.ports(),
-        server_options.stats,
-        metrics,
-        log,
-        now,
-    ) {
+    let metrics = metrics_file(rt.alloc(), server_options, options, now)?;
+    let log = log_of(rt.alloc(), server_options, options, now)?;
+    match Reports::new(rt, server_options.stats, metrics, log, now) {
         Ok(reports) => Ok(reports),
         Err(_) => Err(CommandError::Memory),
     }
@@ -208,7 +200,7 @@ fn parts_of<'a, R: Files<File = File> + Net + RandomSource + AllocGlobal>(
 ) -> Result<Parts<'a>, CommandError<'a>> {
     check_reachable(relayed.ip, relayed.ip6)?;
     let wire = wire_of(rt, server_options, options, relayed.ip, rules)?;
-    let reports = reports_of(rt.alloc(), server_options, options, &wire.sockets, now)?;
+    let reports = reports_of(rt, server_options, options, now)?;
     Ok(Parts { wire, reports })
 }
 
