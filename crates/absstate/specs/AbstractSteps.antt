@@ -1,7 +1,8 @@
 -- Interface. The abstract step: the abstract states after an instruction, or the reason for which a step from here
 -- could be stuck. The tests come in the order of the tagged machine. Numbers are computed by the operations of a
 -- domain.
-use Rattle.std.specs.Prelude.{ℕ, suc, ◌+◌, ◌-◌, ◌^◌, ◌≤◌, Bool, true, false, not, ◌&&◌, ◌||◌, ℤ, pos, negsuc, ◌+ℤ◌, ◌-ℤ◌, int_le, int_lt, List, Option, Some, None, Result, Ok, Err, ◌==◌, if◌then◌else◌}
+use Rattle.std.specs.Prelude.{ℕ, suc, ◌+◌, ◌-◌, ◌^◌, ◌≤◌, Bool, true, false, not, ◌&&◌, ℤ, pos, negsuc, ◌+ℤ◌, ◌-ℤ◌, int_le, int_lt, List, Option, Some, None, Result, Ok, Err, ◌==◌, if◌then◌else◌}
+use Rattle.std.specs.List.{list_any, range_with_len}
 use Rattle.std.specs.Option.{ok_or, option_map}
 use Rattle.std.specs.Int.{w64, cast_signed}
 use Rattle.insn.specs.Codes.{byte_count, unsigned_size}
@@ -24,7 +25,7 @@ use Rattle.insn.specs.declared.instruction.Operand.TheVariants as operand
 use Rattle.insn.specs.declared.instruction.Insn.{Insn}
 use Rattle.insn.specs.declared.instruction.Insn.TheVariants as insn
 use Rattle.basics.specs.Fallible.{◌>>=◌, check}
-use Rattle.semantics.specs.Access.{is_within, index_within, stack_first, headroom_first, group_of, second_group, third_group, last_group, is_aligned}
+use Rattle.semantics.specs.Access.{is_within, index_within, stack_first, headroom_first, group_of, is_aligned}
 use Rattle.semantics.specs.Loading.{field_at}
 use Rattle.semantics.specs.Calls.{helper_of, signature_of, argument_at}
 use Rattle.semantics.specs.Effects.{writable, moved_place, is_group_place}
@@ -294,13 +295,9 @@ is_known_pointer (Stack k) = true
 is_known_pointer (Data anchor k) = true
 is_known_pointer End = true
 
--- whether a group is known to hold a pointer of which one of the n cells from an index on is a part
+-- whether one of the n cells from an index on lies in a group that is known to hold a pointer
 abbrev pub touches_known : {D : Type 0} → AbsState D → ℕ → ℕ → Bool
-touches_known a n i =
-    is_known_pointer (group_at a.registers (group_of i))
-    || (is_known_pointer (group_at a.registers (second_group n i))
-    || (is_known_pointer (group_at a.registers (third_group n i))
-    || is_known_pointer (group_at a.registers (last_group n i))))
+touches_known a n i = list_any (λ j. is_known_pointer (group_at a.registers (group_of j))) (range_with_len i n)
 
 -- n cells from an index on may be read as bytes: no pointer's, and those that are set
 abbrev pub cells_readable : {D : Type 0} → AbsState D → ℕ → ℕ → Result (Unit {0}) Reason

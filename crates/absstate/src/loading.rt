@@ -67,9 +67,10 @@ fn is_pointer<D: Copy>(known: AbstractValue<D>) -> bool
     }
 }
 
-/// Returns whether one of the `n` cells from an index on is known to be a part of a pointer.
+/// Returns whether one of the `n` cells from an index on, at most 24, is known to be a part of a pointer.
 fn touches_pointer<D: Copy>(state: &AbsState<D>, n: usize, index: usize) -> bool
     requires some { 1 ≤ n }
+    requires few { n ≤ 24 }
     requires inside { index + n ≤ STACK_BYTES }
     ensures { result ≡ touches_known state.now n index }
 {
@@ -79,7 +80,7 @@ fn touches_pointer<D: Copy>(state: &AbsState<D>, n: usize, index: usize) -> bool
         || is_pointer(state.group((index + n - 1) / GROUP_BYTES))
 }
 
-/// Tests whether the `n` cells from an index on may be read as bytes.
+/// Tests whether the `n` cells from an index on, at most 24, may be read as bytes.
 ///
 /// # Errors
 /// `PointerBytes` where one is known to be a part of a pointer, `UninitStack` where one isn't known to be set.
@@ -89,6 +90,7 @@ pub(crate) fn cells_readable<D: Copy>(
     index: usize,
 ) -> Result<(), Reason>
     requires some { 1 ≤ n }
+    requires few { n ≤ 24 }
     requires inside { index + n ≤ STACK_BYTES }
     ensures { result ≡ cells_readable state.now n index }
 {
@@ -101,12 +103,13 @@ pub(crate) fn cells_readable<D: Copy>(
     }
 }
 
-/// Tests whether the `n` bytes of a region may be read.
+/// Tests whether the `n` bytes of a region, at most 24, may be read.
 ///
 /// # Errors
 /// As [`cells_readable`].
 fn region_readable<D: Copy>(state: &AbsState<D>, n: usize, region: Region) -> Result<(), Reason>
     requires some { 1 ≤ n }
+    requires few { n ≤ 24 }
     requires inside { IsInStack n region }
     ensures { result ≡ region_readable state.now n region }
 {

@@ -49,9 +49,10 @@ fn stack_argument(registers: &Registers, n: usize, reg: Reg) -> Result<usize, Re
     stack_index(argument, n).ok_or(Reason::HelperArgument(reg.number()))
 }
 
-/// Returns the bytes of `N` stack cells from an index on.
+/// Returns the bytes of `N` stack cells, at most 24, from an index on.
 fn bytes_at<const N: usize>(memory: &Memory<'_>, index: usize) -> Result<[u8; N], Reason>
     requires some { 1 ≤ N }
+    requires few { N ≤ 24 }
     requires inside { index + N ≤ STACK_BYTES }
     ensures { result ≡ bytes_at (memory_of memory.now) N index }
 {

@@ -68,6 +68,7 @@ fn last_group(index: usize, n: usize) -> usize
 /// Returns whether one of the `n` cells from an index on, at most 24, is a part of a pointer.
 fn touches_pointer(stack: &StackMemory, index: usize, n: usize) -> bool
     requires some { 1 ≤ n }
+    requires few { n ≤ 24 }
     requires inside { index + n ≤ STACK_BYTES }
     ensures { result ≡ touches_pointer stack.now.groups n index }
 {
@@ -77,12 +78,13 @@ fn touches_pointer(stack: &StackMemory, index: usize, n: usize) -> bool
         || is_pointer(pointer_in(stack, last_group(index, n)))
 }
 
-/// Tests that none of the `n` cells from an index on is a part of a pointer.
+/// Tests that none of the `n` cells from an index on, at most 24, is a part of a pointer.
 ///
 /// # Errors
 /// `PointerBytes`.
 pub(crate) fn no_pointer(stack: &StackMemory, index: usize, n: usize) -> Result<(), Reason>
     requires some { 1 ≤ n }
+    requires few { n ≤ 24 }
     requires inside { index + n ≤ STACK_BYTES }
     ensures { result ≡ no_pointer stack.now.groups n index }
 {

@@ -1,11 +1,11 @@
 -- Internal. Where the abstract step places an access, and what it lets read there, agree with the memory of a member.
-use Rattle.std.proofs.Common.{◌≡◌, ℕ, zero, suc, ◌+◌, ◌*◌, ◌/◌, ◌<◌, ◌≤◌, ◌^◌, Bool, true, false, not, ◌&&◌, ◌||◌, ◌-◌, ℤ, pos, negsuc, ◌+ℤ◌, ◌-ℤ◌, ◌≤ℤ◌, List, ◌∷◌, length, take, drop, get_or, Option, Some, None, Result, Ok, refl, inl, inr, sym, ap, ◌∙◌, subst, arith, All, drop-cons}
+use Rattle.std.proofs.Common.{◌≡◌, ℕ, zero, suc, ◌+◌, ◌*◌, ◌<◌, ◌≤◌, ◌^◌, Bool, true, false, not, ◌&&◌, ℤ, pos, negsuc, ◌+ℤ◌, ◌-ℤ◌, ◌≤ℤ◌, List, ◌∷◌, length, take, drop, get_or, Option, Some, None, Result, Ok, refl, inl, inr, sym, ap, ◌∙◌, subst, arith, All, drop-cons}
 use Rattle.std.specs.Prelude.{is_some, int_le, slice_index_or, unsigned_abs, if◌then◌else◌}
 use Rattle.std.specs.Option.{ok_or, option_map}
 use Rattle.std.proofs.lemmas.Int.{ints}
 use Rattle.basics.specs.Fallible.{◌>>=◌, check}
-use Rattle.semantics.specs.Access.{is_within, index_within, part, cells_number, number_in, stack_first, headroom_first, is_pointer, is_aligned, group_of, second_group, third_group, last_group, pointer_in, touches_pointer}
-use Rattle.semantics.specs.laws.Group.{second_of_aligned, third_of_aligned, last_of_aligned}
+use Rattle.semantics.specs.Access.{is_within, index_within, part, cells_number, number_in, stack_first, headroom_first, is_pointer, is_aligned, group_of, pointer_in, touches_pointer}
+use Rattle.semantics.specs.laws.Group.{group_of_none, groups_agree, group_implied, any_of_aligned}
 use Rattle.semantics.specs.Access as access
 use Rattle.semantics.specs.laws.Access.{index_short}
 use Rattle.semantics.specs.Access.{cells_bytes}
@@ -186,12 +186,6 @@ not_true : (x : Bool) → (x ≡ true → ⊥) → x ≡ false
 not_true true p = absurd (p refl)
 not_true false p = refl
 
-or_true : (x y x' y' : Bool) → (x ≡ true → x' ≡ true) → (y ≡ true → y' ≡ true) → (x || y) ≡ true → (x' || y') ≡ true
-or_true true y x' y' p q e = ap (λ (b : Bool). b || y') (p refl)
-or_true false true true y' p q e = refl
-or_true false true false y' p q e = q refl
-or_true false false x' y' p q e = absurd (let bad : false ≡ true = e in cc)
-
 module _ {D : Type 0} (Member : D → ℕ → Type 0) (mode : Mode) (places : Places) (size : ℕ) where
   -- a group that is known to hold a pointer holds one
   pub pointer_known : (k : AbstractValue D) (v : Value) → IsValue Member mode places size k v → abstract.is_known_pointer k ≡ true → is_pointer v ≡ true
@@ -233,56 +227,43 @@ module _ {D : Type 0} (Member : D → ℕ → Type 0) (claimed : Reason → Type
       let none : slice_index_or s.memory.stack.cells j None ≡ None = member.tagged.memory.apart j e in
       let bad : false ≡ true = sym (ap is_some none) ∙ held in cc
 
-  touched_known : (n i : ℕ) → 1 ≤ n → i + n ≤ 512 → abstract.touches_known a n i ≡ true → touches_pointer groups n i ≡ true
-  touched_known n i some short e =
-      or_true (abstract.is_known_pointer (group_at a.registers (group_of i))) ((abstract.is_known_pointer (group_at a.registers (second_group n i))) || ((abstract.is_known_pointer (group_at a.registers (third_group n i))) || (abstract.is_known_pointer (group_at a.registers (last_group n i))))) (is_pointer (pointer_in groups (group_of i))) ((is_pointer (pointer_in groups (second_group n i))) || ((is_pointer (pointer_in groups (third_group n i))) || (is_pointer (pointer_in groups (last_group n i)))))
-      (pointer_known Member mode places s.memory.length _ _ (at_group i (omega (arith, some, short))))
-      (or_true (abstract.is_known_pointer (group_at a.registers (second_group n i))) ((abstract.is_known_pointer (group_at a.registers (third_group n i))) || (abstract.is_known_pointer (group_at a.registers (last_group n i)))) (is_pointer (pointer_in groups (second_group n i))) ((is_pointer (pointer_in groups (third_group n i))) || (is_pointer (pointer_in groups (last_group n i))))
-      (pointer_known Member mode places s.memory.length _ _ (at_group (i + n / 3) (omega (arith, some, short))))
-      (or_true (abstract.is_known_pointer (group_at a.registers (third_group n i))) (abstract.is_known_pointer (group_at a.registers (last_group n i))) (is_pointer (pointer_in groups (third_group n i))) (is_pointer (pointer_in groups (last_group n i)))
-      (pointer_known Member mode places s.memory.length _ _ (at_group (i + 2 * n / 3) (omega (arith, some, short))))
-      (pointer_known Member mode places s.memory.length _ _ (at_group (i + n - 1) (omega (arith, some, short)))))) e
+  touched_known : (n i : ℕ) → i + n ≤ 512 → abstract.touches_known a n i ≡ true → touches_pointer groups n i ≡ true
+  touched_known n i short =
+      group_implied (λ g. abstract.is_known_pointer (group_at a.registers g)) (λ g. is_pointer (pointer_in groups g)) n i
+      (λ j from to. pointer_known Member mode places s.memory.length _ _ (at_group j (omega (arith, to, short))))
 
   -- none of the cells that are set is a part of a pointer
   marked_apart : (n i j : ℕ) → i + n ≤ 512 → are_marked a.marks i n ≡ true → i ≤ j → j < i + n → is_pointer (pointer_in groups (group_of j)) ≡ false
   marked_apart n i j short e from to = not_true (is_pointer (pointer_in groups (group_of j))) (set_no_pointer j (omega (arith, to, short)) (marked_inside a.marks n i j e from to))
 
-  pub touched_apart : (n i : ℕ) → 1 ≤ n → i + n ≤ 512 → are_marked a.marks i n ≡ true → touches_pointer groups n i ≡ false
-  touched_apart n i some short e =
-      let first : (is_pointer (pointer_in groups (group_of i))) ≡ false = marked_apart n i i short e (omega arith) (omega (arith, some)) in
-      let second : (is_pointer (pointer_in groups (second_group n i))) ≡ false = marked_apart n i (i + n / 3) short e (omega arith) (omega (arith, some)) in
-      let third : (is_pointer (pointer_in groups (third_group n i))) ≡ false = marked_apart n i (i + 2 * n / 3) short e (omega arith) (omega (arith, some)) in
-      let last : (is_pointer (pointer_in groups (last_group n i))) ≡ false = marked_apart n i (i + n - 1) short e (omega (arith, some)) (omega (arith, some)) in
-      (λ t. first t || (second t || (third t || last t)))
+  pub touched_apart : (n i : ℕ) → i + n ≤ 512 → are_marked a.marks i n ≡ true → touches_pointer groups n i ≡ false
+  touched_apart n i short e = group_of_none (λ g. is_pointer (pointer_in groups g)) n i (λ j from to. marked_apart n i j short e from to)
 
-  touched_same : (n i : ℕ) → 1 ≤ n → i + n ≤ 512 → mode ≡ Strict → touches_pointer groups n i ≡ abstract.touches_known a n i
-  touched_same n i some short strict =
-      let first = pointer_same Member mode places s.memory.length _ _ (at_group i (omega (arith, some, short))) strict in
-      let second = pointer_same Member mode places s.memory.length _ _ (at_group (i + n / 3) (omega (arith, some, short))) strict in
-      let third = pointer_same Member mode places s.memory.length _ _ (at_group (i + 2 * n / 3) (omega (arith, some, short))) strict in
-      let last = pointer_same Member mode places s.memory.length _ _ (at_group (i + n - 1) (omega (arith, some, short))) strict in
-      (λ t. first t || (second t || (third t || last t)))
+  touched_same : (n i : ℕ) → i + n ≤ 512 → mode ≡ Strict → touches_pointer groups n i ≡ abstract.touches_known a n i
+  touched_same n i short strict =
+      groups_agree (λ g. is_pointer (pointer_in groups g)) (λ g. abstract.is_known_pointer (group_at a.registers g)) n i
+      (λ j from to. pointer_same Member mode places s.memory.length _ _ (at_group j (omega (arith, to, short))) strict)
 
-  cells_read : {X : Type 0} (P : X → Type 0) (option : Option X) (n i : ℕ) → 1 ≤ n → i + n ≤ 512 → Agree claimed (λ (u : Unit {0}) (x : X). P x) (check (are_marked a.marks i n) UninitStack) (ok_or option UninitStack)
+  cells_read : {X : Type 0} (P : X → Type 0) (option : Option X) (n i : ℕ) → i + n ≤ 512 → Agree claimed (λ (u : Unit {0}) (x : X). P x) (check (are_marked a.marks i n) UninitStack) (ok_or option UninitStack)
       → Agree claimed (λ (u : Unit {0}) (x : X). P x) (abstract.cells_readable a n i) (access.no_pointer groups n i >>= λ u. ok_or option UninitStack)
-  cells_read P option n i some short agree =
-      touch_agree claimed mode unset P (abstract.touches_known a n i) (touches_pointer groups n i) (are_marked a.marks i n) option (touched_known n i some short) (touched_apart n i some short) (touched_same n i some short) agree
+  cells_read P option n i short agree =
+      touch_agree claimed mode unset P (abstract.touches_known a n i) (touches_pointer groups n i) (are_marked a.marks i n) option (touched_known n i short) (touched_apart n i short) (touched_same n i short) agree
 
-  pub region_read : (n : ℕ) (r : Region) (at : Location) → 1 ≤ n → IsRegionOf n r at → Agree claimed (IsReadNumber n) (abstract.region_readable a n r) (number_in s.memory n at)
-  region_read n (regions.InStack i) (InStack j) some is =
+  pub region_read : (n : ℕ) (r : Region) (at : Location) → IsRegionOf n r at → Agree claimed (IsReadNumber n) (abstract.region_readable a n r) (number_in s.memory n at)
+  region_read n (regions.InStack i) (InStack j) is =
       subst (λ (c : ℕ). Agree claimed (IsReadNumber n) (abstract.cells_readable a n i) (number_in s.memory n (InStack c))) is.0
-      (cells_read (λ (c : ℕ). c < 256 ^ n) (cells_number (part n i s.memory.stack.cells)) n i some is.1
+      (cells_read (λ (c : ℕ). c < 256 ^ n) (cells_number (part n i s.memory.stack.cells)) n i is.1
       (stack_read claimed mode unset a.marks s.memory.stack.cells member.tagged.memory.count member.cells member.tagged.memory.cells n i is.1))
-  region_read n (regions.InStack i) (InBytes j) some is = absurd is
-  region_read n regions.InBytes (InStack j) some is = absurd is
-  region_read n regions.InBytes (InBytes j) some is = bytes_fit s.memory.bytes member.tagged.memory.bytes n j
+  region_read n (regions.InStack i) (InBytes j) is = absurd is
+  region_read n regions.InBytes (InStack j) is = absurd is
+  region_read n regions.InBytes (InBytes j) is = bytes_fit s.memory.bytes member.tagged.memory.bytes n j
 
   -- bytes in the stack
-  pub bytes_read : (n i : ℕ) → 1 ≤ n → i + n ≤ 512 → Agree claimed (λ (u : Unit {0}) (bytes : List ℕ). AreBytes n bytes) (abstract.cells_readable a n i) (bytes_at s.memory n i)
-  bytes_read n i some short =
+  pub bytes_read : (n i : ℕ) → i + n ≤ 512 → Agree claimed (λ (u : Unit {0}) (bytes : List ℕ). AreBytes n bytes) (abstract.cells_readable a n i) (bytes_at s.memory n i)
+  bytes_read n i short =
       let part_of : List (Option ℕ) = part n i s.memory.stack.cells in
       let same : is_some (cells_bytes part_of) ≡ is_some (cells_number part_of) = bytes_or_number part_of in
-      cells_read (AreBytes n) (cells_bytes part_of) n i some short
+      cells_read (AreBytes n) (cells_bytes part_of) n i short
       (cells_agree claimed mode unset (AreBytes n) (are_marked a.marks i n) (cells_bytes part_of)
       (λ e. same ∙ marks_hold a.marks s.memory.stack.cells member.tagged.memory.count (λ k lt. (member.cells k lt).held) n i short e)
       (λ is_mode. same ∙ marks_are a.marks s.memory.stack.cells member.tagged.memory.count (λ k lt. (member.cells k lt).no_other is_mode) n i short)
@@ -296,8 +277,8 @@ module _ {D : Type 0} (Member : D → ℕ → Type 0) (claimed : Reason → Type
       subst (λ (k : Bool). Agree claimed F ((check (not k) PointerBytes >>= λ u. check (are_marked a.marks i 8) UninitStack) >>= f) (Ok y)) (sym none)
       (by (are_marked a.marks i 8) refl) where
         by : (b : Bool) → are_marked a.marks i 8 ≡ b → Agree claimed F (check b UninitStack >>= f) (Ok y)
-        by true e = absurd (let bad : false ≡ true = sym (touched_apart 8 i (omega arith) short e) ∙ touched in cc)
-        by false e = λ c. let bad : true ≡ false = sym touched ∙ touched_same 8 i (omega arith) short (unset c) ∙ none in absurd cc
+        by true e = absurd (let bad : false ≡ true = sym (touched_apart 8 i short e) ∙ touched in cc)
+        by false e = λ c. let bad : true ≡ false = sym touched ∙ touched_same 8 i short (unset c) ∙ none in absurd cc
 
   module _ (F : AbstractValue D → Value → Type 0) (holds : (k : AbstractValue D) (v : Value) → IsHeld Member places s.memory.length k v → F k v) (number : D) where
     whole_by : (i : ℕ) (numbers : Result ℕ Reason) → i + 8 ≤ 512 → is_aligned i ≡ true → Agree claimed F (abstract.cells_readable a 8 i >>= λ u. Ok (known.Scalar number)) (numbers >>= λ n. Ok (value.Scalar n))
@@ -307,14 +288,9 @@ module _ {D : Type 0} (Member : D → ℕ → Type 0) (claimed : Reason → Type
     whole_by i numbers short aligned agree true e false f = absurd (let bad : false ≡ true = sym f ∙ pointer_known Member mode places s.memory.length _ _ (at_group i (omega (arith, short))) e in cc)
     whole_by i numbers short aligned agree false e false f = agree
     whole_by i numbers short aligned agree false e true f =
-        let second : second_group 8 i ≡ group_of i = second_of_aligned i aligned in
-        let third : third_group 8 i ≡ group_of i = third_of_aligned i aligned in
-        let last : last_group 8 i ≡ group_of i = last_of_aligned i aligned in
-        let k : Bool = abstract.is_known_pointer (group_at a.registers (group_of i)) in
-        let is_one : abstract.touches_known a 8 i ≡ (k || (k || (k || k))) = (λ t. k || (abstract.is_known_pointer (group_at a.registers (second t)) || (abstract.is_known_pointer (group_at a.registers (third t)) || abstract.is_known_pointer (group_at a.registers (last t))))) in
         unknown_pointer F (λ u. Ok (known.Scalar number)) i (pointer_in groups (group_of i)) short
-        (is_one ∙ (λ t. e t || (e t || (e t || e t))))
-        (ap (λ (b : Bool). b || (is_pointer (pointer_in groups (second_group 8 i)) || (is_pointer (pointer_in groups (third_group 8 i)) || is_pointer (pointer_in groups (last_group 8 i))))) f)
+        (any_of_aligned (λ g. abstract.is_known_pointer (group_at a.registers g)) i aligned ∙ e)
+        (any_of_aligned (λ g. is_pointer (pointer_in groups g)) i aligned ∙ f)
 
     -- what a load of a size reads at a region
     abbrev ReadsAlike : Size → Region → Location → Type 0

@@ -19,7 +19,6 @@ use Rattle.semantics.specs.laws.Access.{index_short}
 use Rattle.semantics.specs.Calls.{argument_at, context_value, number_value, stack_value, bytes_at, record_bytes, widened, no_inputs}
 use Rattle.semantics.specs.laws.Number.{no_address_bytes, widened_bytes}
 use Rattle.semantics.specs.declared.helper.RecordForm.{RecordForm}
-use Rattle.semantics.specs.declared.helper.RecordForm.TheVariants.{Narrow, Wide}
 use Rattle.semantics.specs.declared.helper.Room.{Room}
 use Rattle.semantics.specs.declared.helper.Argument.{Argument}
 use Rattle.semantics.specs.declared.helper.Argument.TheVariants as argument
@@ -89,28 +88,22 @@ module _ {D : Type 0} (ops : Operations D) (Member : D → ℕ → Type 0) (soun
       datagram_located claimed s.memory.length low high proved (places id) k d n h (λ c. absurd (plain c tt))
   locations_agree known.End plain m d n h = subst (λ (b : ℤ). Agree claimed (IsRegionOf n) (abstract.region_in_datagram b n (pos 0) (pos TAILROOM)) (location s.memory.length value.End d n)) (zero_more d) (tailroom_located claimed s.memory.length d n)
 
-  reads_agree : (x : AbstractValue D) → (claimed DatagramBounds → IsMade x → ⊥) → (m : ℕ) (d : ℤ) (n : ℕ) → 1 ≤ n → IsNumberOf Member places s.memory.length x m
+  reads_agree : (x : AbstractValue D) → (claimed DatagramBounds → IsMade x → ⊥) → (m : ℕ) (d : ℤ) (n : ℕ) → IsNumberOf Member places s.memory.length x m
       → Agree claimed (IsReadNumber n) (abstract.readable a x d n) (loading.reached_number s.memory (concrete_value places x m) d n)
   unfolding readable reached_number
-  reads_agree x plain m d n some h =
+  reads_agree x plain m d n h =
       and_then claimed (IsRegionOf n) (IsReadNumber n) (abstract.access_region a x d n) (location s.memory.length (concrete_value places x m) d n) _ _ (locations_agree x plain m d n h)
-      (λ r at p q is. region_read Member claimed mode places a s member claims.cells n r at some is)
+      (λ r at p q is. region_read Member claimed mode places a s member claims.cells n r at is)
 
   -- what is known of the number that is read has it as a member, extended or not
-  numbers_agree : (extend : ℕ → ℕ) (number : D) (x : AbstractValue D) → (claimed DatagramBounds → IsMade x → ⊥) → (m : ℕ) (d : ℤ) (n : ℕ) → 1 ≤ n → ((k : ℕ) → k < 256 ^ n → Member number (extend k)) → IsNumberOf Member places s.memory.length x m
+  numbers_agree : (extend : ℕ → ℕ) (number : D) (x : AbstractValue D) → (claimed DatagramBounds → IsMade x → ⊥) → (m : ℕ) (d : ℤ) (n : ℕ) → ((k : ℕ) → k < 256 ^ n → Member number (extend k)) → IsNumberOf Member places s.memory.length x m
       → Agree claimed (IsHeld Member places s.memory.length) (abstract.abstract_load_number a x d n number) (loading.reached_number s.memory (concrete_value places x m) d n >>= λ k. Ok (value.Scalar (extend k)))
-  numbers_agree extend number x plain m d n some is h =
+  numbers_agree extend number x plain m d n is h =
       and_then claimed (IsReadNumber n) (IsHeld Member places s.memory.length) (abstract.readable a x d n) (loading.reached_number s.memory (concrete_value places x m) d n) _ _
-      (reads_agree x plain m d n some h) (λ u k p q small. (extend k, is k small, refl))
+      (reads_agree x plain m d n h) (λ u k p q small. (extend k, is k small, refl))
 
   of_size : (z : Size) (k : ℕ) → k < 256 ^ byte_count z → Member (abstract.number_of_size ops z) k
   of_size z k small = sound.range 0 (256 ^ byte_count z - 1) k (size_fits z) (omega arith) (omega (arith, small))
-
-  some_bytes : (z : Size) → 1 ≤ byte_count z
-  some_bytes size.Byte = omega arith
-  some_bytes size.Half = omega arith
-  some_bytes size.Word = omega arith
-  some_bytes size.Double = omega arith
 
   value_agrees : (x : AbstractValue D) → (claimed DatagramBounds → IsMade x → ⊥) → (m : ℕ) (d : ℤ) (z : Size) → IsNumberOf Member places s.memory.length x m
       → Agree claimed (IsResult Member places s.memory.length) (abstract.abstract_load_value ops a x d z) (loading.reached_value s.memory (concrete_value places x m) d z)
@@ -120,7 +113,7 @@ module _ {D : Type 0} (ops : Operations D) (Member : D → ℕ → Type 0) (soun
       (and_then claimed (IsRegionOf (byte_count z)) (IsHeld Member places s.memory.length) (abstract.access_region a x d (byte_count z)) (location s.memory.length (concrete_value places x m) d (byte_count z)) _ _ (locations_agree x plain m d (byte_count z) h)
       (λ r at p q is. reads_alike Member claimed mode places a s member claims.cells (IsHeld Member places s.memory.length) (λ k v held. held) (abstract.number_of_size ops z)
       z r at is (and_then claimed (IsReadNumber (byte_count z)) (IsHeld Member places s.memory.length) (abstract.region_readable a (byte_count z) r) (number_in s.memory (byte_count z) at) _ _
-      (region_read Member claimed mode places a s member claims.cells (byte_count z) r at (some_bytes z) is) (λ u k p' q' small. (k, of_size z k small, refl)))))
+      (region_read Member claimed mode places a s member claims.cells (byte_count z) r at is) (λ u k p' q' small. (k, of_size z k small, refl)))))
 
   pub load_agrees : (c : Context) → IsContext c → (x : AbstractValue D) → (claimed DatagramBounds → IsMade x → ⊥) → (m : ℕ) (d : ℤ) (z : Size) → IsNumberOf Member places s.memory.length x m
       → Agree claimed (IsResult Member places s.memory.length) (abstract.abstract_load ops a x d z) (loading.load c s.memory (concrete_value places x m) d z)
@@ -135,7 +128,7 @@ module _ {D : Type 0} (ops : Operations D) (Member : D → ℕ → Type 0) (soun
       → Agree claimed (IsResult Member places s.memory.length) (abstract.abstract_load_signed ops a x d size) (loading.load_signed s.memory (concrete_value places x m) d size)
   signed_agrees x plain m d size h =
       held_results claimed Member places s.memory.length (abstract.abstract_load_signed ops a x d size) (loading.load_signed s.memory (concrete_value places x m) d size)
-      (numbers_agree (sign_extended size) ops.top x plain m d (byte_count (unsigned_size size)) (some_bytes (unsigned_size size)) (λ k small. sound.top (sign_extended size k) (sign_extended_word size k)) h)
+      (numbers_agree (sign_extended size) ops.top x plain m d (byte_count (unsigned_size size)) (λ k small. sound.top (sign_extended size k) (sign_extended_word size k)) h)
 
   -- ---- calls
 
@@ -179,10 +172,6 @@ module _ {D : Type 0} (ops : Operations D) (Member : D → ℕ → Type 0) (soun
         indices r (known.Data anchor k) m h = λ c. refl
         indices r known.End m h = λ c. refl
 
-  record_some : (form : RecordForm) → 1 ≤ record_bytes form
-  record_some Narrow = omega arith
-  record_some Wide = omega arith
-
   abbrev HasBytes : ℕ → Unit {0} → List ℕ → Type 0
   HasBytes size u bytes = AreBytes size bytes
 
@@ -198,7 +187,7 @@ module _ {D : Type 0} (ops : Operations D) (Member : D → ℕ → Type 0) (soun
         widens form (Err e) (Err f) are = are
 
         region_record : (m : ℕ) → m + record_bytes form ≤ 512 → Agree claimed IsRecord (abstract.cells_readable a (record_bytes form) m) (bytes_at s.memory (record_bytes form) m >>= λ bytes. Ok (widened form bytes))
-        region_record m short = widens form (abstract.cells_readable a (record_bytes form) m) (bytes_at s.memory (record_bytes form) m) (bytes_read Member claimed mode places a s member claims.cells (record_bytes form) m (record_some form) short)
+        region_record m short = widens form (abstract.cells_readable a (record_bytes form) m) (bytes_at s.memory (record_bytes form) m) (bytes_read Member claimed mode places a s member claims.cells (record_bytes form) m short)
 
   argument_agrees : (r : Reg) (argument : Argument) (out : Option Room) (given : Inputs) → IsGiven out given → Agree claimed IsGiven (abstract.abstract_with_argument a r argument out) (effects.with_argument s.memory s.registers r argument given)
   argument_agrees r argument.Unused out given is = is
