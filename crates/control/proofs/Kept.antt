@@ -1,7 +1,6 @@
 -- What is kept of a buffer after the message that is written over its first bytes.
-use Rattle.std.proofs.Common.{◌≡◌, ℕ, ◌≤◌, List, length, drop, ap, ◌∙◌, sym, refl, subst, arith, false, Result, Ok, Err}
-use Rattle.std.specs.Result.{is_err, OnOk}
-use Rattle.std.proofs.lemmas.Bool.{both_ways}
+use Rattle.std.proofs.Common.{◌≡◌, ℕ, ◌≤◌, List, length, drop, ap, ◌∙◌, sym, refl, subst, arith, Result, Ok}
+use Rattle.std.specs.Result.{OnOk}
 use Rattle.std.proofs.lemmas.Slice.{drop-append-drop}
 use Rattle.stun.specs.Builders.{bytes_of, parts_of, used_of, Appends}
 use Rattle.stun.specs.Building.{IsBegun, building_parts, used_in}
@@ -29,9 +28,8 @@ module _ {kind : ℕ} {value : List ℕ} {old new : Builder} (appends : Appends 
       ∙ drop-append-drop (length (parts_bytes (parts_of new))) (bytes_of old) (parts_bytes (parts_of new)) n (omega (arith, far, used_is (bytes_of new))) refl
 
 -- a message was begun where that is no error
-pub begun_when_ok : {E P : Type 0} (result : Result (Unit {0}) E) → false ≡ is_err result → OnOk result P → P
-begun_when_ok (Ok done) is_ok begun = begun
-begun_when_ok (Err error) is_ok begun = absurd (both_ways false refl is_ok)
+pub begun_when_ok : {E P : Type 0} (result : Result (Unit {0}) E) (done : Unit {0}) → result ≡ Ok done → OnOk result P → P
+begun_when_ok {E} {P} result done is begun = subst (λ (r : Result (Unit {0}) E). OnOk r P) is begun
 
 pub begun_kept : (kind : ℕ) (tx old new : List ℕ) → IsBegun kind tx old new → IsKeptFrom (used_in new) old new
 begun_kept kind tx old new begins n far =

@@ -166,9 +166,7 @@ fn write_grant(out: &mut [u8], reply: &Reply<'_>, grant: Grant) -> usize
         reply.now.message.now (option_map key_bytes reply.now.key) (Ok grant)) }
 {
     let kind = reply.request.kind(Class::Success);
-    if begin(out, kind, &reply.message.tx()).is_err() {
-        return 0;
-    }
+    begin(out, kind, &reply.message.tx()).unwrap();
     let mut builder = Builder::resume(out);
     push_grant(&mut builder, reply.config, &reply.client, grant);
     sign_if(&mut builder, reply.key);
@@ -186,9 +184,7 @@ fn write_error(out: &mut [u8], reply: &Reply<'_>, error: ErrorCode) -> usize
         reply.now.message.now (option_map key_bytes reply.now.key) (Err error)) }
 {
     let kind = reply.request.kind(Class::Error);
-    if begin(out, kind, &reply.message.tx()).is_err() {
-        return 0;
-    }
+    begin(out, kind, &reply.message.tx()).unwrap();
     let mut builder = Builder::resume(out);
     push_error(&mut builder, error);
     push_details(&mut builder, reply.config, reply.message, error);
