@@ -1,7 +1,18 @@
 //! Explanations: why a step sends what it does, found before the step.
 
-ghost use Rattle.std.specs.Prelude.{◌≡◌, if◌then◌else◌, Some, None};
+ghost use Rattle.std.specs.Prelude.{◌≡◌, ℕ, List, [], ◌∷◌, ◌++◌, if◌then◌else◌, true, false, Some, None};
+ghost use Rattle.control.specs.declared.config.Config.{Config};
+ghost use Rattle.events.specs.Events.{Event};
+ghost use Rattle.events.specs.declared.meta.Source.{Source};
+ghost use Rattle.programs.specs.Runs.{run_for};
+ghost use Rattle.relay.specs.ByPrograms.{Programs, program_for};
 ghost use Rattle.relay.specs.Grounds.{reason_by};
+ghost use Rattle.relay.specs.Reasons.{exit_slot, reason_of_event};
+ghost use Rattle.relay.specs.ReasonTexts.{line_ending};
+ghost use Rattle.relay.specs.Replays.{answer_text};
+ghost use Rattle.rules.specs.Systems.{SystemState};
+ghost use Rattle.semantics.specs.Runs.{Exited};
+ghost use Rattle.tables.specs.Rows.{Rows};
 
 use crate::reason::{Reason, reason_of};
 use crate::relay::Relay;
@@ -47,6 +58,17 @@ pub(crate) fn reason_by(done: Disposition, grounds: Option<Grounds>) -> Option<R
     let Grounds { ruled, slot } = grounds?;
     Some(reason_of(done, ruled, slot))
 }
+
+/// States what reasons are of: the slot that one names is that of the last state of the program's run, which exits there; and a
+/// line with a reason is the line without it, up to its line feed, and the reason.
+pub fn law_reasons_are_of_the_answers()
+    ensures exit { (programs : Programs) (tx : List ℕ) (from : Source) (live : Rows) (bytes : List ℕ) (verdict : ℕ)
+        → (run_for (program_for programs from) tx from live bytes).ending ≡ Exited verdict
+        → exit_slot programs tx from live bytes ≡ (run_for (program_for programs from) tx from live bytes).state.slot }
+    ensures line { (programs : Programs) (config : Config) (s : SystemState) (e : Event) → (answer : List ℕ)
+        × (answer_text false programs config s e ≡ answer ++ 10 ∷ [])
+        × (answer_text true programs config s e ≡ answer ++ line_ending (Some (reason_of_event programs config s e))) }
+{}
 
 /// Returns a reason where reasons are wanted.
 pub(crate) fn reason_if(explains: bool, reason: Reason) -> Option<Reason>

@@ -21,6 +21,7 @@ pub use amplification::law_no_program_amplifies;
 pub use confining::law_confined_programs_send_what_is_permitted;
 pub use error::RelayError;
 pub use events::{Action, Meta, Source};
+pub use explaining::law_reasons_are_of_the_answers;
 pub use isolation::law_programs_keep_users_apart;
 pub use reason::Reason;
 pub use relay::Relay;
