@@ -32,11 +32,11 @@ def reached(crates):
 
 
 def copy(names, folder):
-    """Copies crates and those below them to a folder, as a repository of their own, without what is built."""
+    """Copies crates and those below them to a folder, as a repository of their own, without edits and what is built."""
     crates, below = named(), reached(used())
     wanted = set(names).union(*(below[name] for name in names))
     for name in wanted:
-        shutil.copytree(TOP / "crates" / name, folder / "crates" / name, ignore=shutil.ignore_patterns("out"))
+        shutil.copytree(TOP / "crates" / name, folder / "crates" / name, ignore=shutil.ignore_patterns("out", "must-fail", "wrong-bodies"))
     lines = [f"{name}: {' '.join(libraries)}\n" for name, libraries in crates.items() if name in wanted]
     (folder / "crates.txt").write_text("".join(lines), encoding="utf-8")
     shutil.copy(TOP / "HANDLES", folder)

@@ -31,13 +31,12 @@ def place(name, folder):
 def built(name, folder):
     """Proves and builds a program in a copy of the repository, copies it to a folder, and returns its path there.
 
-    It is run once, over its files args and stdin. Where it doesn't print what stdout has, the script ends.
+    The gate's own command does it, over the copy, so it begins with what a gate or a build kept on this machine. It runs the
+    program over its files args and stdin too. Where that isn't what stdout has, the script ends.
     """
     with tempfile.TemporaryDirectory() as top:
         crate = place(name, Path(top))
-        words = (crate / "args").read_text(encoding="utf-8").split()
-        given = (crate / "stdin").read_text(encoding="utf-8") if (crate / "stdin").exists() else ""
-        ran = subprocess.run(["rt", "run", "--", *words], cwd=crate, input=given, capture_output=True, text=True, check=False)
-        if ran.returncode or ran.stdout != (crate / "stdout").read_text(encoding="utf-8"):
-            sys.exit(f"{name} {' '.join(words)}: status {ran.returncode}\n{ran.stdout}{ran.stderr}")
+        ran = subprocess.run(["rt", "ci"], cwd=top, capture_output=True, text=True, check=False)
+        if ran.returncode:
+            sys.exit(f"{name} can't be built:\n{ran.stdout[-2000:]}{ran.stderr[-2000:]}")
         return shutil.copy(crate / "out" / name, folder)
