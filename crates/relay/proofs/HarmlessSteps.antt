@@ -1,8 +1,8 @@
 -- No datagram does harm, whatever programs are loaded.
-use Rattle.std.proofs.Common.{◌≡◌, ℕ, List, [], Bool, true, false, refl}
+use Rattle.std.proofs.Common.{ℕ, List, [], Bool, true, false, refl}
 use Rattle.std.specs.Prelude.{Option, None, Some, IfSome, if◌then◌else◌}
 use Rattle.control.specs.declared.config.Config.{Config}
-use Rattle.events.specs.Events.{Datagram, Sending}
+use Rattle.events.specs.Events.{Datagram}
 use Rattle.events.specs.declared.meta.Meta.{Meta}
 use Rattle.events.specs.declared.meta.Source.{Source}
 use Rattle.events.specs.declared.meta.Source.TheVariants.{Client, Peer}

@@ -64,27 +64,27 @@ fn may_come(confinement: &Option<Confinement>, asks: bool, live: &LiveSlot<'_>, 
 /// See docs/DECISIONS.md, "One family" and "Confined programs".
 #[inline(always)]
 pub(crate) fn window_found(
-    from: Source,
+    from: &Source,
     live: &Option<LiveSlot<'_>>,
     destination: Option<Addr>,
     confinement: &Option<Confinement>,
     asks: bool,
 ) -> Found
     ensures sends { (r : RelayContents) → AreWellFormed (rows_at r.greatest r.rows)
-        → live.now ≡ held_for from (rows_at r.greatest r.rows)
-        → sending_of_found r from result ≡ let_through (asked asks confinement.now) from (rows_at r.greatest r.rows)
-        (planned_sending from (rows_at r.greatest r.rows) destination (window_shown r.frame)) }
+        → live.now ≡ held_for from.now (rows_at r.greatest r.rows)
+        → sending_of_found r from.now result ≡ let_through (asked asks confinement.now) from.now (rows_at r.greatest r.rows)
+        (planned_sending from.now (rows_at r.greatest r.rows) destination (window_shown r.frame)) }
     ensures disposition { (r : RelayContents) → AreWellFormed (rows_at r.greatest r.rows)
-        → live.now ≡ held_for from (rows_at r.greatest r.rows)
-        → disposition_of_found r from result ≡ disposition_of_sent (asked asks confinement.now) from (rows_at r.greatest r.rows)
-        (planned_sending from (rows_at r.greatest r.rows) destination (window_shown r.frame)) }
+        → live.now ≡ held_for from.now (rows_at r.greatest r.rows)
+        → disposition_of_found r from.now result ≡ disposition_of_sent (asked asks confinement.now) from.now (rows_at r.greatest r.rows)
+        (planned_sending from.now (rows_at r.greatest r.rows) destination (window_shown r.frame)) }
     ensures room { (reply : List ℕ) → HasRoomFor result reply }
 {
     let Some(live) = live else {
         return Found::Nothing(Discard::ByProgram);
     };
     let allocation = live.allocation();
-    match from {
+    match *from {
         Source::Client(_) => {
             let Some(peer) = destination else {
                 return Found::Nothing(Discard::ByProgram);

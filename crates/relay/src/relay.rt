@@ -67,10 +67,10 @@ impl Model for Relay {
 }
 
 /// Returns whether a source is served: a client over IPv4, or a peer whose slot is there.
-fn is_served(from: Source, tables: &Tables) -> bool
-    ensures { result ≡ is_served from && is_there from tables.now }
+fn is_served(from: &Source, tables: &Tables) -> bool
+    ensures { result ≡ is_served from.now && is_there from.now tables.now }
 {
-    match from {
+    match *from {
         Source::Client(client) => is_ipv4(&client),
         Source::Peer { slot, .. } => slot < tables.slots(),
     }
@@ -272,15 +272,15 @@ impl Relay {
         self.law_steps_are_harmless(&meta, n);
         let found = self.decide(&meta, n);
         let relay = &*self;
-        relay.lend(meta.from, found)
+        relay.lend(&meta.from, found)
     }
 
     /// Lends the bytes of what was found for a datagram of a source.
     #[inline(always)]
-    fn lend(&self, from: Source, found: Found) -> Step<'_>
+    fn lend(&self, from: &Source, found: Found) -> Step<'_>
         requires { HasRoomFor found self.now.reply }
-        ensures answer { sending_of result.action ≡ sending_of_found self.now from found }
-        ensures disposition { result.disposition ≡ disposition_of_found self.now from found }
+        ensures answer { sending_of result.action ≡ sending_of_found self.now from.now found }
+        ensures disposition { result.disposition ≡ disposition_of_found self.now from.now found }
     {
         match found {
             Found::Nothing(reason) => discarded(reason),
@@ -291,7 +291,7 @@ impl Relay {
             Found::WindowToClient { client } => {
                 relayed(window_to_client(client, self.frame.window()))
             }
-            Found::Answer(answer) => match from {
+            Found::Answer(answer) => match *from {
                 Source::Client(client) => Step {
                     action: answer.action(client, self.frame.datagram(), &self.reply),
                     disposition: answer.disposition(),
@@ -328,13 +328,13 @@ impl Relay {
         ensures room { HasRoomFor result self.new.reply }
     {
         self.greatest = moment_of(self.greatest, meta.now);
-        if !is_served(meta.from, &self.tables) {
+        if !is_served(&meta.from, &self.tables) {
             return Found::Nothing(Discard::NotServed);
         }
         self.tables.law_are_well_formed();
-        let helpers = Lookup::new(live_for(&self.tables, self.greatest, meta.from));
-        let program = program_for(&self.client, &self.peer, meta.from);
-        let context = context_for(meta.tx, meta.from);
+        let helpers = Lookup::new(live_for(&self.tables, self.greatest, &meta.from));
+        let program = program_for(&self.client, &self.peer, &meta.from);
+        let context = context_for(&meta.tx, &meta.from);
         let outcome = run_over(program, &mut self.frame, &helpers, &context, n);
         match outcome.verdict {
             PASSES => match meta.from {
@@ -342,7 +342,7 @@ impl Relay {
                 Source::Peer { .. } => Found::Nothing(Discard::ByProgram),
             },
             SENDS => window_found(
-                meta.from,
+                &meta.from,
                 &helpers.live,
                 outcome.destination,
                 &self.confinement,
@@ -362,9 +362,9 @@ impl Relay {
         let moment = moment_of(self.greatest, meta.now);
         let ruled = discard_by_rules(&self.tables, moment, meta, &self.frame.room()[..n]);
         self.tables.law_are_well_formed();
-        let helpers = Lookup::new(live_for(&self.tables, moment, meta.from));
-        let program = program_for(&self.client, &self.peer, meta.from);
-        let context = context_for(meta.tx, meta.from);
+        let helpers = Lookup::new(live_for(&self.tables, moment, &meta.from));
+        let program = program_for(&self.client, &self.peer, &meta.from);
+        let context = context_for(&meta.tx, &meta.from);
         let slot = last_slot_over(program, &mut self.frame, &helpers, &context, n);
         Grounds { ruled, slot }
     }

@@ -21,19 +21,19 @@ use tables::{LiveSlot, Tables};
 use verifier::Verified;
 
 /// Returns the context of a datagram.
-pub(crate) fn context_for(tx: [u8; 12], from: Source) -> Context
-    ensures { result ≡ context_for tx from }
+pub(crate) fn context_for(tx: &[u8; 12], from: &Source) -> Context
+    ensures { result ≡ context_for tx.now from.now }
 {
-    match from {
+    match *from {
         Source::Client(source) => Context {
             side: Side::Client,
             source,
-            tx,
+            tx: *tx,
         },
         Source::Peer { addr, .. } => Context {
             side: Side::Peer,
             source: addr,
-            tx,
+            tx: *tx,
         },
     }
 }
@@ -41,21 +41,21 @@ pub(crate) fn context_for(tx: [u8; 12], from: Source) -> Context
 /// Returns what the slot holds in which helpers look up, if its allocation is live at a moment: the slot of a client's
 /// allocation, or the one that a peer's datagram came to.
 #[inline(always)]
-pub(crate) fn live_for(tables: &Tables, moment: u64, from: Source) -> Option<LiveSlot<'_>>
-    ensures { result ≡ held_for from (rows_at moment tables.now) }
+pub(crate) fn live_for<'a>(tables: &'a Tables, moment: u64, from: &Source) -> Option<LiveSlot<'a>>
+    ensures { result ≡ held_for from.now (rows_at moment tables.now) }
 {
-    match from {
+    match *from {
         Source::Client(client) => tables.live_of(client, moment),
         Source::Peer { slot, .. } => tables.live_at(slot, moment),
     }
 }
 
 /// Returns the program of a side.
-pub(crate) fn program_for<'a>(client: &'a Loaded, peer: &'a Loaded, from: Source) -> &'a Verified
+pub(crate) fn program_for<'a>(client: &'a Loaded, peer: &'a Loaded, from: &Source) -> &'a Verified
     ensures { (confinement : Option Confinement) → result.now
-        ≡ program_for (record { client = client.now; peer = peer.now; confinement = confinement }) from }
+        ≡ program_for (record { client = client.now; peer = peer.now; confinement = confinement }) from.now }
 {
-    match from {
+    match *from {
         Source::Client(_) => client.program(),
         Source::Peer { .. } => peer.program(),
     }

@@ -1,4 +1,4 @@
-use Rattle.std.proofs.Common.{refl, length}
+use Rattle.std.proofs.Common.{refl}
 use Rattle.semantics.specs.Machine.{start}
 use Rattle.events.specs.Lines.{answer_line}
 use Rattle.programs.specs.Runs.{environment_for}

@@ -12,12 +12,12 @@ use Rattle.relay.proofs.found.window_found.Goals as goal
 -- ---- where the data of a client may not go to the peer
 
 stopped : (c : goal.Then-not-may_go) (r : RelayContents) → AreWellFormed (rows_at r.greatest r.rows)
-    → c.args.live.now ≡ held_for c.args.from (rows_at r.greatest r.rows) → IsFoundAs (asked c.args.asks c.args.confinement.now) r c.args.from c.args.destination found.Stopped
+    → c.args.live.now ≡ held_for c.args.from.now (rows_at r.greatest r.rows) → IsFoundAs (asked c.args.asks c.args.confinement.now) r c.args.from.now c.args.destination found.Stopped
 stopped c r formed is =
     let family : is_of_family c.in-Some.live.allocation.family c.in-Some-destination.peer ≡ true =
     ap (λ (a : Allocation). is_of_family a.family c.in-Some-destination.peer) (sym c.allocation-allocation.ensures)
     ∙ sym c.is_of_family.ensures ∙ c.if-not-is_of_family.false in
-    client_stopped (asked c.args.asks c.args.confinement.now) r c.args.from c.args.destination c.args.live.now formed is c.in-Some.live c.in-Some.is
+    client_stopped (asked c.args.asks c.args.confinement.now) r c.args.from.now c.args.destination c.args.live.now formed is c.in-Some.live c.in-Some.is
     c.in-Client.field-0 c.in-Client.is c.in-Some-destination.peer c.in-Some-destination.is family
     (sym c.may_go.ensures ∙ c.if-not-may_go.true)
 
@@ -30,13 +30,13 @@ returns-then-not-may_go-clause-disposition c = λ r formed is. (stopped c r form
 -- ---- where it may
 
 sent : (c : goal.Else-not-may_go) (r : RelayContents) → AreWellFormed (rows_at r.greatest r.rows)
-    → c.args.live.now ≡ held_for c.args.from (rows_at r.greatest r.rows)
-    → IsFoundAs (asked c.args.asks c.args.confinement.now) r c.args.from c.args.destination (found.WindowToPeer c.allocation-allocation.result.now.slot c.in-Some-destination.peer)
+    → c.args.live.now ≡ held_for c.args.from.now (rows_at r.greatest r.rows)
+    → IsFoundAs (asked c.args.asks c.args.confinement.now) r c.args.from.now c.args.destination (found.WindowToPeer c.allocation-allocation.result.now.slot c.in-Some-destination.peer)
 sent c r formed is =
     let family : is_of_family c.in-Some.live.allocation.family c.in-Some-destination.peer ≡ true =
     ap (λ (a : Allocation). is_of_family a.family c.in-Some-destination.peer) (sym c.allocation-allocation.ensures)
     ∙ sym c.is_of_family.ensures ∙ c.if-not-is_of_family.false in
-    client_sends (asked c.args.asks c.args.confinement.now) r c.args.from c.args.destination c.args.live.now formed is c.in-Some.live c.in-Some.is
+    client_sends (asked c.args.asks c.args.confinement.now) r c.args.from.now c.args.destination c.args.live.now formed is c.in-Some.live c.in-Some.is
     c.in-Client.field-0 c.in-Client.is c.in-Some-destination.peer c.in-Some-destination.is family
     c.allocation-allocation.result.now.slot (ap (λ (a : Allocation). a.slot) c.allocation-allocation.ensures)
     (sym c.may_go.ensures ∙ c.if-not-may_go.false)
@@ -50,9 +50,9 @@ returns-else-not-may_go-clause-disposition c = λ r formed is. (sent c r formed 
 -- ---- where the data of a peer may not come to the client
 
 kept_out : (c : goal.Then-not-may_come) (r : RelayContents) → AreWellFormed (rows_at r.greatest r.rows)
-    → c.args.live.now ≡ held_for c.args.from (rows_at r.greatest r.rows) → IsFoundAs (asked c.args.asks c.args.confinement.now) r c.args.from c.args.destination found.Stopped
+    → c.args.live.now ≡ held_for c.args.from.now (rows_at r.greatest r.rows) → IsFoundAs (asked c.args.asks c.args.confinement.now) r c.args.from.now c.args.destination found.Stopped
 kept_out c r formed is =
-    peer_stopped (asked c.args.asks c.args.confinement.now) r c.args.from c.args.destination c.args.live.now formed is c.in-Some.live c.in-Some.is
+    peer_stopped (asked c.args.asks c.args.confinement.now) r c.args.from.now c.args.destination c.args.live.now formed is c.in-Some.live c.in-Some.is
     c.in-Peer.slot c.in-Peer.addr c.in-Peer.is (sym c.may_come.ensures ∙ c.if-not-may_come.true)
 
 pub returns-then-not-may_come-clause-sends : goal.returns-then-not-may_come-clause-sends
@@ -65,12 +65,12 @@ returns-then-not-may_come-clause-disposition c = λ r formed is. (kept_out c r f
 
 pub returns-else-not-may_come-clause-sends : goal.returns-else-not-may_come-clause-sends
 returns-else-not-may_come-clause-sends c = λ r formed is.
-    (peer_sends (asked c.args.asks c.args.confinement.now) r c.args.from c.args.destination c.args.live.now formed is c.in-Some.live c.in-Some.is
+    (peer_sends (asked c.args.asks c.args.confinement.now) r c.args.from.now c.args.destination c.args.live.now formed is c.in-Some.live c.in-Some.is
     c.in-Peer.slot c.in-Peer.addr c.in-Peer.is _ (ap (λ (a : Allocation). a.client) c.allocation-allocation.ensures)
     (sym c.may_come.ensures ∙ c.if-not-may_come.false)).sends
 
 pub returns-else-not-may_come-clause-disposition : goal.returns-else-not-may_come-clause-disposition
 returns-else-not-may_come-clause-disposition c = λ r formed is.
-    (peer_sends (asked c.args.asks c.args.confinement.now) r c.args.from c.args.destination c.args.live.now formed is c.in-Some.live c.in-Some.is
+    (peer_sends (asked c.args.asks c.args.confinement.now) r c.args.from.now c.args.destination c.args.live.now formed is c.in-Some.live c.in-Some.is
     c.in-Peer.slot c.in-Peer.addr c.in-Peer.is _ (ap (λ (a : Allocation). a.client) c.allocation-allocation.ensures)
     (sym c.may_come.ensures ∙ c.if-not-may_come.false)).disposition

@@ -81,19 +81,19 @@ plan_reply : (c : goal.After-window_found) → reply_at (the_view c.self.inside)
     ≡ reply_of_relaying c.self.inside.tables (let_through (asked c.args.asks c.self.inside.confinement) c.args.meta.now.from (rows_at c.moment_of-self-inside.result c.self.inside.tables)
     (planned_sending c.args.meta.now.from (rows_at c.moment_of-self-inside.result c.self.inside.tables) c.run_over-outcome.result.destination (window_shown c.run_over-outcome.new.frame)))
 plan_reply c =
-    sends (the_view c.self.inside) (asked c.args.asks c.self.inside.confinement) c.args.meta.now c.args.n c.moment_of-self-inside.result c.run_over-outcome.result (shown c.before.before.before.before.before)
-    (ran c.before.before.before.before.before) (search rules) c.in-2.is
+    sends (the_view c.self.inside) (asked c.args.asks c.self.inside.confinement) c.args.meta.now c.args.n c.moment_of-self-inside.result c.run_over-outcome.result (shown c.before.before.before.before)
+    (ran c.before.before.before.before) (search rules) c.in-2.is
 
 pub returns-in-2-clause-stepped : goal.returns-in-2-clause-stepped
 returns-in-2-clause-stepped c =
-    let P : RelayContents → Type 0 = λ r. HasStepped r (shown c.before.before.before.before.before) (outcome_of (asking c.args.asks r) c.args.meta.now c.args.n) in
+    let P : RelayContents → Type 0 = λ r. HasStepped r (shown c.before.before.before.before) (outcome_of (asking c.args.asks r) c.args.meta.now c.args.n) in
     subst P c.self.view_is
-    (stays (the_view c.self.inside) (asked c.args.asks c.self.inside.confinement) c.args.meta.now c.args.n c.moment_of-self-inside.result (shown c.before.before.before.before.before) c.moment_of-self-inside.ensures
+    (stays (the_view c.self.inside) (asked c.args.asks c.self.inside.confinement) c.args.meta.now c.args.n c.moment_of-self-inside.result (shown c.before.before.before.before) c.moment_of-self-inside.ensures
     refl (ap (λ (r : SystemReply). r.rows) (plan_reply c)))
 
 pub returns-in-2-clause-found : goal.returns-in-2-clause-found
 returns-in-2-clause-found c =
-    c.window_found.ensures.sends (shown c.before.before.before.before.before)
+    c.window_found.ensures.sends (shown c.before.before.before.before)
     (rows_at-well_formed c.moment_of-self-inside.result c.self.inside.tables c.law_are_well_formed.ensures) (c.new-helpers.ensures ∙ c.live_for.ensures)
     ∙ sym (ap (λ (r : SystemReply). r.answer) (plan_reply c))
     ∙ answers (the_view c.self.inside) (asked c.args.asks c.self.inside.confinement) c.args.meta.now c.args.n c.moment_of-self-inside.result c.moment_of-self-inside.ensures
@@ -140,9 +140,9 @@ returns-in-Peer-clause-disposition c =
 
 pub returns-in-2-clause-disposition : goal.returns-in-2-clause-disposition
 returns-in-2-clause-disposition c =
-    c.window_found.ensures.disposition (shown c.before.before.before.before.before)
+    c.window_found.ensures.disposition (shown c.before.before.before.before)
     (rows_at-well_formed c.moment_of-self-inside.result c.self.inside.tables c.law_are_well_formed.ensures) (c.new-helpers.ensures ∙ c.live_for.ensures)
-    ∙ sym (does_send (the_view c.self.inside) (asked c.args.asks c.self.inside.confinement) c.args.meta.now c.args.n c.moment_of-self-inside.result c.run_over-outcome.result (shown c.before.before.before.before.before) (ran c.before.before.before.before.before) (search rules) c.in-2.is)
+    ∙ sym (does_send (the_view c.self.inside) (asked c.args.asks c.self.inside.confinement) c.args.meta.now c.args.n c.moment_of-self-inside.result c.run_over-outcome.result (shown c.before.before.before.before) (ran c.before.before.before.before) (search rules) c.in-2.is)
     ∙ done_then (the_view c.self.inside) (asked c.args.asks c.self.inside.confinement) c.args.meta.now c.args.n c.moment_of-self-inside.result c.moment_of-self-inside.ensures
     ∙ (λ i. disposition_of_step (asking c.args.asks (c.self.view_is i)) c.args.meta.now c.args.n)
 

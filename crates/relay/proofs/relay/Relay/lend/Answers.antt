@@ -6,11 +6,11 @@ use Rattle.relay.specs.Found.{sending_of_found, disposition_of_found}
 use Rattle.relay.proofs.relay.Relay.lend.Goals as goal
 
 -- what is sent to the client
-sent : (c : goal.After-relayed-in-WindowToClient) → sending_of c.window_to_client.result ≡ sending_of_found c.args.self.now c.args.from c.args.found
+sent : (c : goal.After-relayed-in-WindowToClient) → sending_of c.window_to_client.result ≡ sending_of_found c.args.self.now c.args.from.now c.args.found
 sent c =
     c.window_to_client.ensures
     ∙ ap (option_map (ToClient c.in-WindowToClient.client)) c.window-in-WindowToClient.ensures
-    ∙ (λ i. sending_of_found (c.self.view_is i) c.args.from (sym c.in-WindowToClient.is i))
+    ∙ (λ i. sending_of_found (c.self.view_is i) c.args.from.now (sym c.in-WindowToClient.is i))
 
 pub returns-in-WindowToClient-clause-answer : goal.returns-in-WindowToClient-clause-answer
 returns-in-WindowToClient-clause-answer c = c.relayed-in-WindowToClient.ensures.action ∙ sent c
@@ -19,5 +19,5 @@ pub returns-in-WindowToClient-clause-disposition : goal.returns-in-WindowToClien
 returns-in-WindowToClient-clause-disposition c =
     c.relayed-in-WindowToClient.ensures.disposition
     ∙ ap relayed_where_sent (sent c)
-    ∙ (λ i. relayed_where_sent (sending_of_found c.args.self.now c.args.from (c.in-WindowToClient.is i)))
-    ∙ (λ i. disposition_of_found c.args.self.now c.args.from (sym c.in-WindowToClient.is i))
+    ∙ (λ i. relayed_where_sent (sending_of_found c.args.self.now c.args.from.now (c.in-WindowToClient.is i)))
+    ∙ (λ i. disposition_of_found c.args.self.now c.args.from.now (sym c.in-WindowToClient.is i))
