@@ -6,6 +6,7 @@ use crate::options::{CommandError, Relayed};
 use crate::starting::start;
 use arrayvec::ArrayVec;
 use command_line::{Options, ServerOptions};
+use control::Response;
 use mio::{Events, Poll, Token};
 use monitoring::{EndReason, ErrorLines, Observed, RecordEnd, Recording, Reports, Sender};
 use peer_filter::PeerFilter;
@@ -14,7 +15,7 @@ use rand_core::Rng;
 use relay::{Disposition, Relay, Source};
 use replacing::{Sides, UserList};
 use server::{
-    Arrival, Counters, LinkFault, Moments, Outcome, Place, Ports, Schedule, Served, TURNS, Timer,
+    Arrival, Counters, LinkFault, Moments, Outcome, Place, Ports, Schedule, TURNS, Timer,
     draw_nonce, serve_round, turn,
 };
 use sockets::Sockets;
@@ -177,11 +178,10 @@ impl<'a> Server<'a> {
         }
     }
 
-    /// Logs what the response to a client's request says, if there is one.
-    fn log_response(&mut self, served: Served, now: u64) {
+    /// Logs what the response to a client's request says.
+    fn log_response(&mut self, from: &Source, response: Response, now: u64) {
         if let Some(log) = self.reports.log()
-            && let Source::Client(client) = served.from
-            && let Outcome::Done(Disposition::Answered(response)) = served.outcome
+            && let Source::Client(client) = *from
         {
             let sender = Sender::of(client, self.relay.area());
             log.answered(response, sender, self.relay.tables(), now);
@@ -251,7 +251,11 @@ impl<'a> Server<'a> {
         );
         match served {
             Ok(None) => return false,
-            Ok(Some(served)) => self.log_response(served, now),
+            Ok(Some(served)) => {
+                if let Outcome::Done(Disposition::Answered(response)) = served.outcome {
+                    self.log_response(&served.from, response, now);
+                }
+            }
             Err(LinkFault) => {}
         }
         let wire = &mut self.wire;
