@@ -8,6 +8,8 @@ mod links;
 #[cfg(test)]
 mod reasons;
 #[cfg(test)]
+mod rounds;
+#[cfg(test)]
 mod sockets;
 #[cfg(test)]
 mod story;

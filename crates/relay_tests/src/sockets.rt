@@ -279,14 +279,9 @@ fn channel<R: Net>(rt: &R, alloc: Global) -> Result<Exchange, Fail> {
 }
 
 #[test]
-fn a_binding_returns_the_address_of_the_socket(rt: HostRuntime) -> Result<(), Fail> {
-    let (found, expected) = binding(&rt, rt.alloc())?;
-    assert_eq!(rt; found.bytes(), expected.as_slice());
-    Ok(())
-}
-
-#[test]
-fn data_passes_over_a_channel_there_and_back(rt: HostRuntime) -> Result<(), Fail> {
+fn a_binding_and_data_over_a_channel_pass_sockets(rt: HostRuntime) -> Result<(), Fail> {
+    let (address, expected) = binding(&rt, rt.alloc())?;
+    assert_eq!(rt; address.bytes(), expected.as_slice());
     let found = channel(&rt, rt.alloc())?;
     assert_eq!(rt; found.kinds, [Some([0x01, 0x03]), Some([0x01, 0x09])]);
     assert_eq!(rt; found.there.bytes(), b"abc".as_slice());
