@@ -3,7 +3,7 @@
     python3 examples/events.py examples/session.txt
 
 writes examples/session.events and examples/session.expected. The description gives each datagram in the words of RFC
-8489 and RFC 8656, with the answer that is expected (docs/DECISIONS.md, "Sessions are described apart"), in lines of these kinds; a line that begins with `#` says nothing:
+8489 and RFC 8656, with the answer that is expected (docs/DESIGN.md, "Sessions are described apart"), in lines of these kinds; a line that begins with `#` says nothing:
 
     user NAME:PASSWORD, realm TEXT, nonce TEXT      what messages are signed with
     now SECONDS                                     the moment of the events that follow

@@ -1,7 +1,7 @@
 """Runs TURN clients that others wrote, unchanged, through the built relayd's `serve` over loopback.
 
 Installs nothing: a client that isn't there is passed over, and the last line says how many ran. With `--require` it is a
-failure. docs/CLIENTS.md names the packages (docs/DECISIONS.md, "Clients are run where they are installed"). Where tshark may
+failure. docs/CLIENTS.md names the packages (docs/DESIGN.md, "Clients are run where they are installed"). Where tshark may
 capture, what the clients and the server sent each other must have no malformed packet. Each session is recorded, and a replay
 of the record must answer with each datagram that the server has sent, in order, where gcc is there.
 """

@@ -4,10 +4,10 @@ Each file of definitions says in its first line whether it is meaning, interface
 nothing internal, and docs/DEFINITIONS.md names every file. No two files define the same name, laws aside, and what a
 line of a page names in parentheses is in a file of definitions that it links. What a file of definitions names that
 docs/HEADLINE.md lists is listed there too, laws aside. Each file that a page links or names is there, unless it is
-one that a build makes (in a folder `out`), with as many lines as the page says, and so is each decision that the code
-names. The picture of docs/ARCHITECTURE.md is that of crates.txt, and the calls on the path of a datagram are those of
-the sources. There are no more test functions than CONTRIBUTING.md says, and no more edits that must fail in either folder
-of a crate, and each edit can be applied.
+one that a build makes (in a folder `out`), with as many lines as the page says. Each decision that the code names is on
+docs/DECISIONS.md or on docs/DESIGN.md, and each of theirs is named. The picture of docs/ARCHITECTURE.md is that of
+crates.txt, and the calls on the path of a datagram are those of the sources. There are no more test functions than
+CONTRIBUTING.md says, and no more edits that must fail in either folder of a crate, and each edit can be applied.
 """
 
 import re
@@ -30,7 +30,9 @@ DEFINED = re.compile(r"^(?:(?:abbrev|unfoldable) )?pub (?:(?:abbrev|unfoldable|r
                      re.MULTILINE)
 LINKED = re.compile(r"\]\(([^)#:]*specs/[\w/]+\.antt)\)")
 GROUP = re.compile(r"\(((?:`[^\W\d][\w'-]*`(?:, |, and | and )?)+)\)")
-DECISION = re.compile(r'docs/DECISIONS\.md, "([^"]*)"')
+# the pages of decisions, and how the code names decisions of either page, one or several
+DECIDED = ("docs/DECISIONS.md", "docs/DESIGN.md")
+CITED = re.compile(r'docs/(?:DECISIONS|DESIGN)\.md((?:(?:,| and) "[^"]*")+)')
 TEST = re.compile(r"^ *#\[test\]$", re.MULTILINE)
 EDIT = re.compile(r"^(file|old|new):(?: (.*))?$", re.MULTILINE)
 # what docs/HEADLINE.md quotes, and the files that have it
@@ -185,17 +187,23 @@ def failures_of_headline():
 
 
 def failures_of_decisions():
-    """Yields the decisions that the code names and that the page lacks, and those of the page that no code names."""
-    titles = re.findall(r"^### (.*)$", (TOP / "docs" / "DECISIONS.md").read_text(encoding="utf-8"), re.MULTILINE)
+    """Yields the decisions that the code names and that neither page has, those that no code names, and those that are there twice."""
+    pages_of = {}
+    for page in DECIDED:
+        for title in re.findall(r"^### (.*)$", (TOP / page).read_text(encoding="utf-8"), re.MULTILINE):
+            pages_of.setdefault(title, []).append(page)
     scripts = [path for folder in ("tests", "examples") for path in sorted((TOP / folder).glob("*.py"))]
     named = {title: source for source in [*sources(), *scripts]
-             for title in DECISION.findall(source.read_text(encoding="utf-8"))}
+             for cited in CITED.findall(source.read_text(encoding="utf-8"))
+             for title in re.findall(r'"([^"]*)"', cited)}
     for title, source in named.items():
-        if title not in titles:
+        if title not in pages_of:
             yield f"{source.relative_to(TOP)}: no decision {title}"
-    for title in titles:
+    for title, found in pages_of.items():
         if title not in named:
-            yield f"docs/DECISIONS.md: no code names {title}"
+            yield f"{found[0]}: no code names {title}"
+        if len(found) > 1:
+            yield f"the decision {title} is in {' and in '.join(found)}"
 
 
 def failures_of_lines(title, made):
