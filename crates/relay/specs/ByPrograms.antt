@@ -1,5 +1,5 @@
 -- Meaning. The system with loaded programs: every datagram first goes through the run of its side's program. And what it
--- does with a datagram.
+-- does with a datagram (this profile).
 use Rattle.std.specs.Prelude.{ℕ, List, Bool, true, Option, None, Some, length, nat_lt, ◌==◌, if◌then◌else◌}
 use Rattle.insn.specs.declared.instruction.Insn.{Insn}
 use Rattle.semantics.specs.Runs as runs

@@ -1,4 +1,4 @@
--- Meaning. Which events are requests whose credentials are accepted, where programs are loaded: rows change by them alone.
+-- Meaning. Which events are requests with accepted credentials (RFC 8489, section 9.2.4): with any programs, rows change by them alone.
 use Rattle.std.specs.Prelude.{◌⊎◌, ℕ, List, [], ◌∷◌, length}
 use Rattle.addresses.specs.declared.address.Addr.{Addr}
 use Rattle.control.specs.declared.config.Config.{Config}

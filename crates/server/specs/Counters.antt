@@ -1,4 +1,4 @@
--- Meaning. What is counted of datagrams that came and of what became of them.
+-- Meaning. What is counted of datagrams that came, by their kinds (RFC 8656, section 12), and of what became of them.
 use Rattle.std.specs.Prelude.{◌≡◌, ◌≢◌, ℕ, ◌+◌, ◌<◌, ◌-◌, ◌^◌, min, nat_le, List, [], ◌∷◌, ◌++◌, length, map, if◌then◌else◌}
 use Rattle.std.specs.List.{sum_by}
 use Rattle.server.specs.declared.counters.TheConstants.{KINDS, REASONS}
