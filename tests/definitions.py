@@ -1,13 +1,14 @@
 """Compares the pages with the files that they name, and counts what has a limit.
 
 Each file of definitions says in its first line whether it is meaning, interface or internal, what is meaning names
-nothing internal, and docs/DEFINITIONS.md names every file. No two files define the same name, laws aside, and what a
-line of a page names in parentheses is in a file of definitions that it links. What a file of definitions names that
-docs/HEADLINE.md lists is listed there too, laws aside. Each file that a page links or names is there, unless it is
-one that a build makes (in a folder `out`), with as many lines as the page says. Each decision that the code names is on
-docs/DECISIONS.md or on docs/DESIGN.md, and each of theirs is named. The picture of docs/ARCHITECTURE.md is that of
-crates.txt, and the calls on the path of a datagram are those of the sources. There are no more test functions than
-CONTRIBUTING.md says, and no more edits that must fail in either folder of a crate, and each edit can be applied.
+nothing internal, and docs/DEFINITIONS.md has the tables that are made of their first comments; with `--write` these are
+written there first. No two files define the same name, laws aside, and what a line of a page names in parentheses is in
+a file of definitions that it links. What a file of definitions names that docs/HEADLINE.md lists is listed there too,
+laws aside. Each file that a page links or names is there, unless it is one that a build makes (in a folder `out`), with
+as many lines as the page says. Each decision that the code names is on docs/DECISIONS.md or on docs/DESIGN.md, and each
+of theirs is named. The picture of docs/ARCHITECTURE.md is that of crates.txt, and the calls on the path of a datagram
+are those of the sources. There are no more test functions than CONTRIBUTING.md says, and no more edits that must fail
+in either folder of a crate, and each edit can be applied.
 """
 
 import re
@@ -15,21 +16,17 @@ import sys
 
 from lib.calls import Function, path
 from lib.crates import picture
+from lib.definitions import CRATES, DEFINED, GROUP, INTERNAL, MEANING, PAGE, kind_of, made_page, specs
 from lib.headline import BELIEVED, USED, is_law, named_by, words_of_tables
 from lib.program import TOP, finish
 
-CRATES = TOP / "crates"
-KINDS = ("-- Meaning. ", "-- Interface. ", "-- Internal. ")
 LINK = re.compile(r"\]\(([^)#:]*)(?:#([^)]*))?\)")
 NAMED = re.compile(r"`((?:crates|docs|tests|examples)/(?![\w./-]*\bout/)[\w./-]+)`")
 LINES = re.compile(r"`([\w./]+\.(?:antt|rt))`(?:\]\([^)]*\))? \((\d+) lines\)")
 TABLE = re.compile(r"^\| Function \|.*\n\|[-| ]+\n((?:\|.*\n)+)", re.MULTILINE)
 FUNCTION = re.compile(r"`(?:\w+::)*([a-z]\w*[a-z0-9])(?:\(.*?\))?`")
 SEARCH = re.compile(r"`git grep -lw (\w+) crates`")
-DEFINED = re.compile(r"^(?:(?:abbrev|unfoldable) )?pub (?:(?:abbrev|unfoldable|record|data) )?([^\W\d][\w'-]*) *[({:]",
-                     re.MULTILINE)
 LINKED = re.compile(r"\]\(([^)#:]*specs/[\w/]+\.antt)\)")
-GROUP = re.compile(r"\(((?:`[^\W\d][\w'-]*`(?:, |, and | and )?)+)\)")
 # the pages of decisions, and how the code names decisions of either page, one or several
 DECIDED = ("docs/DECISIONS.md", "docs/DESIGN.md")
 CITED = re.compile(r'docs/(?:DECISIONS|DESIGN)\.md((?:(?:,| and) "[^"]*")+)')
@@ -48,12 +45,6 @@ TURN = Function("relayd", "ServedEndpoints", "serve")
 EDITS = ("must-fail", "wrong-bodies")
 
 
-def specs():
-    """Returns the files of definitions, except the lists of modules."""
-    found = [path for path in CRATES.glob("*/specs/**/*.antt") if path.name not in ("Lib.antt", "laws.antt")]
-    return sorted(found)
-
-
 def sources():
     """Returns the files of code."""
     return sorted(path for path in CRATES.glob("*/src/**/*.rt"))
@@ -66,14 +57,12 @@ def pages():
 
 
 def failures_of_definitions():
-    """Yields the files of definitions that do not say what they are, or that the list lacks."""
-    listed = (TOP / "docs" / "DEFINITIONS.md").read_text(encoding="utf-8")
+    """Yields the files of definitions that do not say what they are, and whether the page of them is another one."""
     for path in specs():
-        name = path.relative_to(CRATES).as_posix()
-        if not path.read_text(encoding="utf-8").startswith(KINDS):
-            yield f"{name}: neither meaning nor interface nor internal"
-        if f"`{name}`" not in listed:
-            yield f"{name}: not in docs/DEFINITIONS.md"
+        if kind_of(path) is None:
+            yield f"{path.relative_to(CRATES)}: neither meaning nor interface nor internal"
+    if PAGE.read_text(encoding="utf-8") != made_page():
+        yield "docs/DEFINITIONS.md: python3 tests/definitions.py --write writes another page"
 
 
 def failures_of_meaning():
@@ -81,8 +70,8 @@ def failures_of_meaning():
     for path in specs():
         text = path.read_text(encoding="utf-8")
         used = [CRATES / crate / "specs" / (name.replace(".", "/") + ".antt") for crate, name in USED.findall(text)]
-        internal = [file for file in used if file.exists() and file.read_text(encoding="utf-8").startswith(KINDS[2])]
-        if text.startswith(KINDS[0]) and internal:
+        internal = [file for file in used if file.exists() and kind_of(file) == INTERNAL]
+        if kind_of(path) == MEANING and internal:
             yield f"{path.relative_to(CRATES)}: names {internal[0].relative_to(CRATES)}, which is internal"
 
 
@@ -267,7 +256,9 @@ def failures_of_edits():
 
 
 def main():
-    """Compares all, and returns the exit status."""
+    """Writes the page of definitions where that is asked for, compares all, and returns the exit status."""
+    if sys.argv[1:] == ["--write"]:
+        PAGE.write_text(made_page(), encoding="utf-8")
     cases = (failures_of_definitions, failures_of_meaning, failures_of_names, failures_of_named_definitions,
              failures_of_pages, failures_of_searches, failures_of_functions, failures_of_headline,
              failures_of_decisions, failures_of_picture, failures_of_path, failures_of_tests, failures_of_edits)
