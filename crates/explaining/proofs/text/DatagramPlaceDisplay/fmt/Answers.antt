@@ -1,6 +1,6 @@
 use Rattle.std.proofs.Common.{◌≡◌, rules, to_z, of_z, w32, w64}
 use Rattle.std.proofs.lemmas.List.{append_assoc}
-use Rattle.explaining.proofs.text.PlaceDisplay.fmt.Goals as goal
+use Rattle.explaining.proofs.text.DatagramPlaceDisplay.fmt.Goals as goal
 
 pub returns-in-Made-clause-writes : goal.returns-in-Made-clause-writes
 returns-in-Made-clause-writes g c =
