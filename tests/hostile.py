@@ -9,6 +9,7 @@ import os
 import pathlib
 import random
 import resource
+import socket
 import struct
 import subprocess
 import sys
@@ -237,6 +238,8 @@ def bursts():
         if largest < 4 << 20:
             yield from wanted("the line of buffers", server.all_printed().startswith("buffers of "), True)
             return
+        # what is dropped at any socket is counted, so the peer has room for the burst too
+        peer.setsockopt(socket.SOL_SOCKET, socket.SO_RCVBUF, largest)
         with server.stopped():
             for number in range(BURST):
                 client.send(channel_data(struct.pack(">I", number) * (LENGTH // 4)))
