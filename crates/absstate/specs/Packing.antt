@@ -1,13 +1,13 @@
 -- Interface. States as they are kept, and the parts that distinguish them.
-use Rattle.std.specs.Prelude.{◌≡◌, ℕ, ◌+◌, ◌≤◌, ◌++◌, ◌&&◌, Bool, true, false, ℤ, List, [], ◌∷◌, take, drop, length, slice_index_or}
+use Rattle.std.specs.Prelude.{◌≡◌, ℕ, ◌+◌, ◌<◌, ◌≤◌, ◌++◌, Bool, true, false, ℤ, List, [], ◌∷◌, take, drop, length, slice_index_or}
 use Rattle.semantics.specs.declared.limits.TheConstants.{GROUPS}
 use Rattle.std.specs.List.{flat_map}
 use Rattle.interval.specs.Domains.{Operations}
 use Rattle.absstate.specs.AbstractStates.{no_groups}
-use Rattle.absstate.specs.Covers.{covers, covers_places, same_int}
+use Rattle.absstate.specs.Covers.{covers, have_one_anchor}
 use Rattle.absstate.specs.MarkWords.{words_of, marks_of}
 use Rattle.absstate.specs.declared.abstract_state.AbstractValue.{AbstractValue}
-use Rattle.absstate.specs.declared.abstract_state.AbstractValue.TheVariants.{Nothing, Scalar, Ctx, Stack, Data, End}
+use Rattle.absstate.specs.declared.abstract_state.AbstractValue.TheVariants.{Nothing}
 use Rattle.absstate.specs.declared.abstract_state.AbsState.{AbsState}
 use Rattle.absstate.specs.declared.part.Part.{Part}
 use Rattle.absstate.specs.declared.part.Part.TheVariants as part
@@ -38,20 +38,12 @@ HoldGroups values chunks = (all_groups (joined chunks) ≡ values) × (length (j
 abbrev pub unpacked : {D : Type 0} → List (AbstractValue D) → List (AbstractValue D) → List ℕ → ℤ → AbsState D
 unpacked registers groups words proved = record { registers = registers ++ all_groups groups; marks = record { cells = marks_of words }; proved = proved }
 
--- a value may cover another one, whatever is proved of their anchors
-abbrev pub may_cover : {D : Type 0} → Operations D → AbstractValue D → AbstractValue D → Bool
-may_cover ops Nothing v = true
-may_cover ops (Scalar x) (Scalar y) = ops.covers x y
-may_cover ops Ctx Ctx = true
-may_cover ops (Stack k) (Stack l) = same_int k l
-may_cover ops (Data x k) (Data y l) = same_int k l && covers_places x y
-may_cover ops End End = true
-may_cover ops _ _ = false
-
 -- a part of a state
 abbrev pub IsPartOf : {D : Type 0} → AbsState D → Part D → Type 0
 IsPartOf a part.Unknown = Unit {0}
-IsPartOf a (part.Value index value) = slice_index_or a.registers index Nothing ≡ value
+IsPartOf a (part.Proved proved) = a.proved ≡ proved
+IsPartOf a (part.Value index value proved) = (slice_index_or a.registers index Nothing ≡ value) × (a.proved ≡ proved)
+IsPartOf a (part.Linked first second) = (first < second) × (have_one_anchor (slice_index_or a.registers first Nothing) (slice_index_or a.registers second Nothing) ≡ true)
 IsPartOf a (part.Word index word) = slice_index_or (words_of a.marks.cells) index 0 ≡ word
 
 -- a state does not cover another one, from which this part of it may tell it apart

@@ -1,13 +1,14 @@
 //! Whether one abstract state covers another: then each machine state that the other one describes it describes too.
 
-ghost use Rattle.std.specs.Prelude.{◌≡◌, length};
+ghost use Rattle.std.specs.Prelude.{◌≡◌, ◌<◌, true, false, length, int_le, slice_index_or, IfNone, IfSome};
 ghost use Rattle.absstate.specs.declared.abstract_state.AbsState.{AbsState};
+ghost use Rattle.absstate.specs.declared.abstract_state.AbstractValue.TheVariants.{Nothing};
 ghost use Rattle.absstate.specs.Covers.{same_int, same_anchor, covers_places, covers_anchor, covers_value, covers_values, have_one_anchor, is_place, stands_for, share_alike, covers_marks, covers_memory, covers};
 
 use crate::abstract_state::{AbsState, AbstractValue, Anchor};
 use interval::Domain;
 
-pub(crate) fn same_offset(a: i32, b: i32) -> bool
+fn same_offset(a: i32, b: i32) -> bool
     ensures { result ≡ same_int a b }
 {
     a <= b && b <= a
@@ -25,7 +26,7 @@ fn same_anchor(a: Anchor, b: Anchor) -> bool
 }
 
 /// Returns whether an anchor has each place of another one.
-pub(crate) fn covers_places(a: Anchor, b: Anchor) -> bool
+fn covers_places(a: Anchor, b: Anchor) -> bool
     ensures { result ≡ covers_places a b }
 {
     let (a_low, b_low) = (a.low(), b.low());
@@ -90,7 +91,7 @@ fn covers_values<D: Domain>(
 }
 
 /// Returns whether two values of a state are places at one anchor.
-fn shared<D: Copy>(a: AbstractValue<D>, b: AbstractValue<D>) -> bool
+pub(crate) fn shared<D: Copy>(a: AbstractValue<D>, b: AbstractValue<D>) -> bool
     ensures { result ≡ have_one_anchor a b }
 {
     match (a, b) {
@@ -101,22 +102,29 @@ fn shared<D: Copy>(a: AbstractValue<D>, b: AbstractValue<D>) -> bool
     }
 }
 
-/// Returns whether each of `values` that shares its anchor with `a` stands for one of `others` that shares its anchor with
-/// `b`.
-fn stands_for<D: Copy>(
+/// Returns the index of the first of `values` that shares its anchor with `a`, while the one of
+/// `others` at its place doesn't share its anchor with `b`.
+fn first_apart<D: Copy>(
     a: AbstractValue<D>,
     b: AbstractValue<D>,
     values: &[AbstractValue<D>],
     others: &[AbstractValue<D>],
-) -> bool
-    ensures { result ≡ stands_for a b values.now others.now }
+) -> Option<usize>
+    ensures none { IfNone result (stands_for a b values.now others.now ≡ true) }
+    ensures found { IfSome result (λ i. (i < length values.now)
+        × (have_one_anchor a (slice_index_or values.now i Nothing) ≡ true)) }
+    ensures some { IfSome result (λ i. stands_for a b values.now others.now ≡ false) }
 {
     match values {
-        [] => true,
+        [] => None,
         [first, values @ ..] => match others {
-            [] => true,
+            [] => None,
             [second, others @ ..] => {
-                (!shared(a, *first) || shared(b, *second)) && stands_for(a, b, values, others)
+                if shared(a, *first) && !shared(b, *second) {
+                    return Some(0);
+                }
+                let index = first_apart(a, b, values, others)?;
+                Some(index + 1)
             }
         },
     }
@@ -132,35 +140,64 @@ fn is_place<D: Copy>(value: AbstractValue<D>) -> bool
     }
 }
 
-/// Returns what [`stands_for`] returns, and looks through the others for a place alone.
-fn place_stands_for<D: Copy>(
+/// Returns what [`first_apart`] returns, and looks through the others for a place alone.
+fn first_apart_of_place<D: Copy>(
     a: AbstractValue<D>,
     b: AbstractValue<D>,
     values: &[AbstractValue<D>],
     others: &[AbstractValue<D>],
-) -> bool
-    ensures { result ≡ stands_for a b values.now others.now }
+) -> Option<usize>
+    ensures none { IfNone result (stands_for a b values.now others.now ≡ true) }
+    ensures found { IfSome result (λ i. (i < length values.now)
+        × (have_one_anchor a (slice_index_or values.now i Nothing) ≡ true)) }
+    ensures some { IfSome result (λ i. stands_for a b values.now others.now ≡ false) }
 {
     if is_place(a) {
-        stands_for(a, b, values, others)
+        first_apart(a, b, values, others)
     } else {
-        true
+        None
+    }
+}
+
+/// Returns the indexes of the first two of `values` at one anchor, while those of `others` at their
+/// places aren't.
+pub(crate) fn first_unlinked<D: Copy>(
+    values: &[AbstractValue<D>],
+    others: &[AbstractValue<D>],
+) -> Option<(usize, usize)>
+    ensures none { IfNone result (share_alike values.now others.now ≡ true) }
+    ensures found { IfSome result (λ p. (p.0 < p.1) × (p.1 < length values.now)
+        × (have_one_anchor (slice_index_or values.now p.0 Nothing)
+        (slice_index_or values.now p.1 Nothing) ≡ true)) }
+    ensures some { IfSome result (λ p. share_alike values.now others.now ≡ false) }
+{
+    match values {
+        [] => None,
+        [a, values @ ..] => match others {
+            [] => None,
+            [b, others @ ..] => {
+                if let Some(index) = first_apart_of_place(*a, *b, values, others) {
+                    return Some((0, index + 1));
+                }
+                let (first, second) = first_unlinked(values, others)?;
+                Some((first + 1, second + 1))
+            }
+        },
     }
 }
 
 /// Returns whether values at one anchor stand for values at one anchor.
-pub(crate) fn share_alike<D: Copy>(values: &[AbstractValue<D>], others: &[AbstractValue<D>]) -> bool
+fn share_alike<D: Copy>(values: &[AbstractValue<D>], others: &[AbstractValue<D>]) -> bool
     ensures { result ≡ share_alike values.now others.now }
 {
-    match values {
-        [] => true,
-        [a, values @ ..] => match others {
-            [] => true,
-            [b, others @ ..] => {
-                place_stands_for(*a, *b, values, others) && share_alike(values, others)
-            }
-        },
-    }
+    first_unlinked(values, others).is_none()
+}
+
+/// Returns whether a proved length is no greater than another one.
+pub(crate) fn proves_no_more(proved: i64, other_proved: i64) -> bool
+    ensures { result ≡ int_le proved other_proved }
+{
+    proved <= other_proved
 }
 
 /// Returns whether each mark of the first list is one of the second.

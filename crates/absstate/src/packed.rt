@@ -1,6 +1,6 @@
 //! States as they are kept: in few bytes, and compared from the part on in which they most likely differ.
 
-ghost use Rattle.std.specs.Prelude.{◌≡◌, ◌≤◌, ◌<◌, ◌+◌, ◌++◌, true, false, take, drop, length, int_le, slice_index_or, IfOk, IfNone, IfSome};
+ghost use Rattle.std.specs.Prelude.{◌≡◌, ◌≤◌, ◌<◌, ◌+◌, ◌++◌, true, false, take, drop, length, slice_index_or, IfOk, IfNone, IfSome};
 ghost use Rattle.absstate.specs.Covers.{covers_value, covers_values};
 ghost use Rattle.semantics.specs.declared.limits.TheConstants.{GROUPS};
 ghost use Rattle.absstate.specs.Packing.{are_unknown, joined, written_over, HoldGroups};
@@ -10,7 +10,7 @@ ghost use Rattle.absstate.specs.declared.abstract_state.AbstractValue.TheVariant
 
 use crate::abstract_state::{AbsState, AbstractValue, Anchor, VALUES};
 use crate::chunk::{Chunk, push_chunks};
-use crate::covering::{covers_value, registers_of, share_alike};
+use crate::covering::{covers_value, first_unlinked, proves_no_more, registers_of};
 use crate::mark_words::{MarkWords, first_outside};
 use crate::part::Part;
 use interval::Domain;
@@ -136,13 +136,6 @@ fn first_uncovered<D: Domain>(
     }
 }
 
-/// Returns whether a proved length is no greater than another one.
-fn proves_no_more(proved: i64, other_proved: i64) -> bool
-    ensures { result ≡ int_le proved other_proved }
-{
-    proved <= other_proved
-}
-
 impl<D: Domain> PackedState<D> {
     ghost use Rattle.std.specs.Prelude.{◌≡◌, None, Some, true, IfNone, IfSome};
     ghost use Rattle.semantics.specs.Machine.{State};
@@ -182,19 +175,22 @@ impl<D: Domain> PackedState<D> {
         }
         let (proved, other_proved) = (self.proved(), other.proved_of(Anchor::First));
         if !proves_no_more(proved, other_proved) {
-            return Some(Part::Unknown);
+            return Some(Part::Proved { proved });
         }
         let _marks = other.marks.cells();
         let others = registers_of(other);
         let values = self.values();
         if let Some((index, value)) = first_uncovered(&values, others, proved, other_proved) {
-            return Some(Part::Value { index, value });
+            return Some(Part::Value {
+                index,
+                value,
+                proved,
+            });
         }
-        if share_alike(&values, others) {
-            None
-        } else {
-            Some(Part::Unknown)
+        if let Some((first, second)) = first_unlinked(&values, others) {
+            return Some(Part::Linked { first, second });
         }
+        None
     }
 }
 

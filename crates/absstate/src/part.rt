@@ -3,11 +3,11 @@
 ghost use Rattle.std.specs.Prelude.{◌≡◌, true, false};
 ghost use Rattle.absstate.specs.MarkWords.{words_of};
 ghost use Rattle.absstate.specs.Covers.{covers};
-ghost use Rattle.absstate.specs.Packing.{may_cover, IsPartOf};
+ghost use Rattle.absstate.specs.Packing.{IsPartOf};
 ghost use Rattle.absstate.specs.declared.abstract_state.AbsState.{AbsState};
 
-use crate::abstract_state::{AbsState, AbstractValue};
-use crate::covering::{covers_places, same_offset};
+use crate::abstract_state::{AbsState, AbstractValue, Anchor};
+use crate::covering::{covers_value, proves_no_more, shared};
 use crate::mark_words::MarkWords;
 use interval::Domain;
 use std::alloc::AllocError;
@@ -17,10 +17,21 @@ use std::alloc::AllocError;
 pub enum Part<D> {
     /// No part is known to.
     Unknown,
-    /// The value of a register or a group, by its index.
+    /// The length that the datagram is proved to have.
+    Proved {
+        proved: i64,
+    },
+    /// The value of a register or a group, by its index, and the length that the datagram is proved
+    /// to have.
     Value {
         index: usize,
         value: AbstractValue<D>,
+        proved: i64,
+    },
+    /// Two places of one anchor, by their indexes.
+    Linked {
+        first: usize,
+        second: usize,
     },
     /// A word of the marks, by its index.
     Word {
@@ -41,34 +52,38 @@ impl<D: Copy> Clone for Part<D> {
 
 impl<D: Copy> Copy for Part<D> {}
 
-/// Returns whether a value may cover another one, whatever is proved of their anchors.
-fn may_cover<D: Domain>(a: AbstractValue<D>, b: AbstractValue<D>) -> bool
-    ensures { result ≡ may_cover D.ops a b }
+/// Returns whether no state with this proved length covers a state.
+fn proved_rules_out<D: Domain>(proved: i64, other: &AbsState<D>) -> bool
+    ensures { (a : AbsState D) → IsPartOf a (Part.Proved proved) → result ≡ true
+        → covers D.ops a other.now ≡ false }
 {
-    match (a, b) {
-        (AbstractValue::Nothing, _)
-        | (AbstractValue::Ctx, AbstractValue::Ctx)
-        | (AbstractValue::End, AbstractValue::End) => true,
-        (AbstractValue::Scalar(a), AbstractValue::Scalar(b)) => a.covers(b),
-        (AbstractValue::Stack(a), AbstractValue::Stack(b)) => same_offset(a, b),
-        (
-            AbstractValue::Data { anchor, offset },
-            AbstractValue::Data {
-                anchor: b,
-                offset: k,
-            },
-        ) => same_offset(offset, k) && covers_places(anchor, b),
-        _ => false,
+    !proves_no_more(proved, other.proved_of(Anchor::First))
+}
+
+/// Returns whether no state with a value at an index and this proved length covers a state.
+fn value_rules_out<D: Domain>(
+    index: usize,
+    value: AbstractValue<D>,
+    proved: i64,
+    other: &AbsState<D>,
+) -> bool
+    ensures { (a : AbsState D) → IsPartOf a (Part.Value index value proved) → result ≡ true
+        → covers D.ops a other.now ≡ false }
+{
+    match other.registers.get(index) {
+        Some(known) => !covers_value(value, *known, proved, other.proved_of(Anchor::First)),
+        None => false,
     }
 }
 
-/// Returns whether no state with a value at an index covers a state.
-fn value_rules_out<D: Domain>(index: usize, value: AbstractValue<D>, other: &AbsState<D>) -> bool
-    ensures { (a : AbsState D) → IsPartOf a (Part.Value index value) → result ≡ true → covers D.ops a other.now ≡ false }
+/// Returns whether no state with two places of one anchor, at these indexes, covers a state.
+fn link_rules_out<D: Domain>(first: usize, second: usize, other: &AbsState<D>) -> bool
+    ensures { (a : AbsState D) → IsPartOf a (Part.Linked first second) → result ≡ true
+        → covers D.ops a other.now ≡ false }
 {
-    match other.registers.get(index) {
-        Some(known) => !may_cover(value, *known),
-        None => false,
+    match (other.registers.get(first), other.registers.get(second)) {
+        (Some(known), Some(linked)) => !shared(*known, *linked),
+        _ => false,
     }
 }
 
@@ -103,7 +118,13 @@ impl<D: Domain> Part<D> {
     {
         match *self {
             Part::Unknown => false,
-            Part::Value { index, value } => value_rules_out(index, value, other),
+            Part::Proved { proved } => proved_rules_out(proved, other),
+            Part::Value {
+                index,
+                value,
+                proved,
+            } => value_rules_out(index, value, proved, other),
+            Part::Linked { first, second } => link_rules_out(first, second, other),
             Part::Word { index, word } => word_rules_out(index, word, other, words),
         }
     }

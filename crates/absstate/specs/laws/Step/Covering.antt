@@ -69,11 +69,25 @@ implied : (x y : Bool) → (not x || y) ≡ true → x ≡ true → y ≡ true
 implied true y e f = e
 implied false y e f = absurd cc
 
-stands_at : {D : Type 0} (w u : AbstractValue D) (vs us : List (AbstractValue D)) (n : ℕ) → stands_for w u vs us ≡ true → n < length vs → n < length us → have_one_anchor w (slice_index_or vs n known.Nothing) ≡ true → have_one_anchor u (slice_index_or us n known.Nothing) ≡ true
-stands_at w u [] us n e lt lt' f = absurd (omega (arith, lt))
-stands_at o u (w ∷ ws) [] n e lt lt' f = absurd (omega (arith, lt'))
-stands_at o u (w ∷ ws) (x ∷ xs) zero e lt lt' f = implied (have_one_anchor o w) (have_one_anchor u x) (first_of_and (not (have_one_anchor o w) || have_one_anchor u x) (stands_for o u ws xs) e) f
-stands_at o u (w ∷ ws) (x ∷ xs) (suc n) e lt lt' f = stands_at o u ws xs n (rest_of_and (not (have_one_anchor o w) || have_one_anchor u x) (stands_for o u ws xs) e) (omega (arith, lt)) (omega (arith, lt')) f
+-- nothing shares an anchor with what is no place
+never_shared : {D : Type 0} (w : AbstractValue D) → have_one_anchor w known.Nothing ≡ true → ⊥
+never_shared (known.Data x k) f = absurd cc
+never_shared w f = absurd cc
+
+stands_at : {D : Type 0} (w u : AbstractValue D) (vs us : List (AbstractValue D)) (n : ℕ) → stands_for w u vs us ≡ true → n < length us → have_one_anchor w (slice_index_or vs n known.Nothing) ≡ true → have_one_anchor u (slice_index_or us n known.Nothing) ≡ true
+stands_at w u [] us n e lt f = absurd (never_shared w f)
+stands_at o u (w ∷ ws) [] n e lt f = absurd (omega (arith, lt))
+stands_at o u (w ∷ ws) (x ∷ xs) zero e lt f = implied (have_one_anchor o w) (have_one_anchor u x) (first_of_and (not (have_one_anchor o w) || have_one_anchor u x) (stands_for o u ws xs) e) f
+stands_at o u (w ∷ ws) (x ∷ xs) (suc n) e lt f = stands_at o u ws xs n (rest_of_and (not (have_one_anchor o w) || have_one_anchor u x) (stands_for o u ws xs) e) (omega (arith, lt)) f
+
+-- two places at one anchor stand for two places at one anchor
+pub linked_at : {D : Type 0} (i j : ℕ) (vs us : List (AbstractValue D)) → share_alike vs us ≡ true → i < j → j < length us → have_one_anchor (slice_index_or vs i known.Nothing) (slice_index_or vs j known.Nothing) ≡ true
+    → have_one_anchor (slice_index_or us i known.Nothing) (slice_index_or us j known.Nothing) ≡ true
+linked_at i j [] us e less lt f = absurd cc
+linked_at i j (v ∷ vs) [] e less lt f = absurd (omega (arith, lt))
+linked_at i zero (v ∷ vs) (u ∷ us) e less lt f = absurd (omega (arith, less))
+linked_at zero (suc j) (v ∷ vs) (u ∷ us) e less lt f = stands_at v u vs us j (first_of_and (stands_for v u vs us) (share_alike vs us) e) (omega (arith, lt)) f
+linked_at (suc i) (suc j) (v ∷ vs) (u ∷ us) e less lt f = linked_at i j vs us (rest_of_and (stands_for v u vs us) (share_alike vs us) e) (omega (arith, less)) (omega (arith, lt)) f
 
 place_stands : {D : Type 0} (places : Places) (id : ℕ) (vs us : List (AbstractValue D)) (n : ℕ) → share_alike vs us ≡ true → n < length vs → n < length us → names (slice_index_or vs n known.Nothing) id ≡ true → places_for places vs us id ≡ place_in places (slice_index_or us n known.Nothing)
 place_stands places id [] us n e lt lt' f = absurd (omega (arith, lt))
@@ -82,7 +96,7 @@ place_stands places id (v ∷ vs) (u ∷ us) zero e lt lt' f = ap (λ (x : Bool)
 place_stands places id (v ∷ vs) (u ∷ us) (suc n) e lt lt' f =
     by (names v id) refl (place_stands places id vs us n (rest_of_and (stands_for v u vs us) (share_alike vs us) e) (omega (arith, lt)) (omega (arith, lt')) f) where
       by : (x : Bool) → names v id ≡ x → places_for places vs us id ≡ place_in places (slice_index_or us n known.Nothing) → (if x then place_in places u else places_for places vs us id) ≡ place_in places (slice_index_or us n known.Nothing)
-      by true g rest = same_places places u (slice_index_or us n known.Nothing) (stands_at v u vs us n (first_of_and (stands_for v u vs us) (share_alike vs us) e) (omega (arith, lt)) (omega (arith, lt')) (named_shared id v (slice_index_or vs n known.Nothing) g f))
+      by true g rest = same_places places u (slice_index_or us n known.Nothing) (stands_at v u vs us n (first_of_and (stands_for v u vs us) (share_alike vs us) e) (omega (arith, lt')) (named_shared id v (slice_index_or vs n known.Nothing) g f))
       by false g rest = rest
 
 -- ---- values

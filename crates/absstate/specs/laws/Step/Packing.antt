@@ -1,12 +1,13 @@
 -- Interface. What a part of a state shows of what it covers, and a state from the parts in which it is kept.
 use Rattle.std.proofs.Common.{◌≡◌, ℕ, zero, suc, ◌+◌, ◌-◌, ◌<◌, ◌≤◌, Bool, true, false, ◌&&◌, ℤ, List, [], ◌∷◌, ◌++◌, length, take, drop, replicate, ◌⊎◌, inl, inr, refl, sym, ap, ap₂, ◌∙◌, arith, append-nil, append_assoc}
 use Rattle.std.specs.Prelude.{slice_index_or, int_le}
+use Rattle.std.proofs.lemmas.Bool.{both_ways, false_from_ne_true}
 use Rattle.interval.specs.Domains.{Operations}
-use Rattle.absstate.specs.Covers.{covers_places, proves_less, covers_value, covers_values, share_alike, covers_marks, covers_memory, covers, same_int}
+use Rattle.absstate.specs.Covers.{covers_value, covers_values, share_alike, covers_marks, covers_memory, covers}
 use Rattle.std.proofs.lemmas.List.{length-take-le, take_all, take_at, drop_at, drop_all, drop-drop, length-append, length-replicate}
 use Rattle.absstate.specs.AbstractStates.{no_groups}
 use Rattle.absstate.specs.MarkWords.{words_of, are_within, marks_of}
-use Rattle.absstate.specs.Packing.{are_unknown, all_groups, joined, unpacked, may_cover, Differs}
+use Rattle.absstate.specs.Packing.{are_unknown, all_groups, joined, unpacked, IsPartOf, Differs}
 use Rattle.absstate.specs.laws.Step.Words.{covered_within, marks_of_words, words_cover}
 use Rattle.absstate.specs.laws.Step.MemoryValues.{first_of_and, rest_of_and, both_true}
 use Rattle.absstate.specs.declared.abstract_state.AbstractValue.{AbstractValue}
@@ -14,9 +15,9 @@ use Rattle.absstate.specs.declared.abstract_state.AbstractValue.TheVariants.{Not
 use Rattle.absstate.specs.declared.abstract_state.AbsState.{AbsState}
 use Rattle.absstate.specs.declared.part.Part.TheVariants as part
 
-pub not_true : (b : Bool) → (b ≡ true → ⊥) → b ≡ false
-not_true true never = absurd (never refl)
-not_true false never = refl
+-- what needs what isn't so isn't so
+pub ruled_out : (test needed : Bool) → (test ≡ true → needed ≡ true) → needed ≡ false → test ≡ false
+ruled_out test needed needs fails = false_from_ne_true test (λ holds. both_ways needed fails (needs holds))
 
 -- an item of a list, whatever stands for one that isn't there
 pub same_item : {A : Type 0} (i : ℕ) (xs : List A) (d e : A) → i < length xs → slice_index_or xs i d ≡ slice_index_or xs i e
@@ -32,53 +33,12 @@ item_after i (x ∷ xs) d = let next : i + 1 ≡ suc i = omega arith in ap (λ (
 -- ---- the values of a state that covers another one
 
 module _ {D : Type 0} (ops : Operations D) (a b : AbsState D) where
-  covered_value : (v u : AbstractValue D) → covers_value ops a b v u ≡ true → may_cover ops v u ≡ true
-  covered_value Nothing u e = refl
-  covered_value (Scalar x) Nothing e = e
-  covered_value (Scalar x) (Scalar y) e = e
-  covered_value (Scalar x) Ctx e = e
-  covered_value (Scalar x) (Stack l) e = e
-  covered_value (Scalar x) (Data y l) e = e
-  covered_value (Scalar x) End e = e
-  covered_value Ctx Nothing e = e
-  covered_value Ctx (Scalar y) e = e
-  covered_value Ctx Ctx e = refl
-  covered_value Ctx (Stack l) e = e
-  covered_value Ctx (Data y l) e = e
-  covered_value Ctx End e = e
-  covered_value (Stack k) Nothing e = e
-  covered_value (Stack k) (Scalar y) e = e
-  covered_value (Stack k) Ctx e = e
-  covered_value (Stack k) (Stack l) e = e
-  covered_value (Stack k) (Data y l) e = e
-  covered_value (Stack k) End e = e
-  covered_value (Data x k) Nothing e = e
-  covered_value (Data x k) (Scalar y) e = e
-  covered_value (Data x k) Ctx e = e
-  covered_value (Data x k) (Stack l) e = e
-  covered_value (Data x k) (Data y l) e =
-      both_true (same_int k l) (covers_places x y) (first_of_and (same_int k l) (covers_places x y && proves_less a b x y) e)
-      (first_of_and (covers_places x y) (proves_less a b x y) (rest_of_and (same_int k l) (covers_places x y && proves_less a b x y) e))
-  covered_value (Data x k) End e = e
-  covered_value End Nothing e = e
-  covered_value End (Scalar y) e = e
-  covered_value End Ctx e = e
-  covered_value End (Stack l) e = e
-  covered_value End (Data y l) e = e
-  covered_value End End e = e
-
   -- each value is covered by the one at its place
-  pub covered_at : (i : ℕ) (vs us : List (AbstractValue D)) → i < length vs → covers_values ops a b vs us ≡ true → covers_value ops a b (slice_index_or vs i Nothing) (slice_index_or us i Nothing) ≡ true
-  covered_at i [] us lt e = absurd (omega (arith, lt))
-  covered_at i (v ∷ vs) [] lt e = absurd cc
-  covered_at zero (v ∷ vs) (u ∷ us) lt e = first_of_and (covers_value ops a b v u) (covers_values ops a b vs us) e
-  covered_at (suc i) (v ∷ vs) (u ∷ us) lt e = covered_at i vs us (omega (arith, lt)) (rest_of_and (covers_value ops a b v u) (covers_values ops a b vs us) e)
-
-  pub may_cover_at : (i : ℕ) (vs us : List (AbstractValue D)) → covers_values ops a b vs us ≡ true → may_cover ops (slice_index_or vs i Nothing) (slice_index_or us i Nothing) ≡ true
-  may_cover_at i [] us e = refl
-  may_cover_at i (v ∷ vs) [] e = absurd cc
-  may_cover_at zero (v ∷ vs) (u ∷ us) e = covered_value v u (first_of_and (covers_value ops a b v u) (covers_values ops a b vs us) e)
-  may_cover_at (suc i) (v ∷ vs) (u ∷ us) e = may_cover_at i vs us (rest_of_and (covers_value ops a b v u) (covers_values ops a b vs us) e)
+  pub covered_at : (i : ℕ) (vs us : List (AbstractValue D)) → covers_values ops a b vs us ≡ true → covers_value ops a b (slice_index_or vs i Nothing) (slice_index_or us i Nothing) ≡ true
+  covered_at i [] us e = refl
+  covered_at i (v ∷ vs) [] e = absurd cc
+  covered_at zero (v ∷ vs) (u ∷ us) e = first_of_and (covers_value ops a b v u) (covers_values ops a b vs us) e
+  covered_at (suc i) (v ∷ vs) (u ∷ us) e = covered_at i vs us (rest_of_and (covers_value ops a b v u) (covers_values ops a b vs us) e)
 
   -- ---- the parts of a state that covers another one
 
@@ -174,23 +134,18 @@ written_after {A} at part others values written inside is =
 
 -- ---- a kept state beside another one
 
-contradiction : (x : Bool) → x ≡ true → x ≡ false → ⊥
-contradiction true e f = absurd cc
-contradiction false e f = absurd cc
-
 module _ {D : Type 0} (ops : Operations D) (a b : AbsState D) where
-  pub proved_differs : int_le a.proved b.proved ≡ false → Differs ops a b part.Unknown
-  proved_differs more = record { uncovered = not_true (covers ops a b) (λ covered. contradiction (int_le a.proved b.proved) (proved_of_covered ops a b covered) more); is_part = tt }
+  pub proved_differs : (proved : ℤ) → a.proved ≡ proved → int_le a.proved b.proved ≡ false → Differs ops a b (part.Proved proved)
+  proved_differs proved is more = record { uncovered = ruled_out (covers ops a b) (int_le a.proved b.proved) (proved_of_covered ops a b) more; is_part = is }
 
-  pub sharing_differs : share_alike a.registers b.registers ≡ false → Differs ops a b part.Unknown
-  sharing_differs apart = record { uncovered = not_true (covers ops a b) (λ covered. contradiction (share_alike a.registers b.registers) (shares_of ops a b covered) apart); is_part = tt }
+  pub sharing_differs : (i j : ℕ) → IsPartOf a (part.Linked i j) → share_alike a.registers b.registers ≡ false → Differs ops a b (part.Linked i j)
+  sharing_differs i j linked apart = record { uncovered = ruled_out (covers ops a b) (share_alike a.registers b.registers) (shares_of ops a b) apart; is_part = linked }
 
-  pub value_differs : (i : ℕ) (v : AbstractValue D) → i < length a.registers → slice_index_or a.registers i Nothing ≡ v → covers_value ops a b v (slice_index_or b.registers i Nothing) ≡ false → Differs ops a b (part.Value i v)
-  value_differs i v lt at outside = record {
-    uncovered = not_true (covers ops a b) (λ covered.
-        contradiction (covers_value ops a b v (slice_index_or b.registers i Nothing))
-        (ap (λ (x : AbstractValue D). covers_value ops a b x (slice_index_or b.registers i Nothing)) (sym at) ∙ covered_at ops a b i a.registers b.registers lt (values_of ops a b covered)) outside);
-    is_part = at;
+  pub value_differs : (i : ℕ) (v : AbstractValue D) (proved : ℤ) → slice_index_or a.registers i Nothing ≡ v → a.proved ≡ proved → covers_value ops a b v (slice_index_or b.registers i Nothing) ≡ false → Differs ops a b (part.Value i v proved)
+  value_differs i v proved at is outside = record {
+    uncovered = ruled_out (covers ops a b) (covers_value ops a b v (slice_index_or b.registers i Nothing))
+        (λ covered. ap (λ (x : AbstractValue D). covers_value ops a b x (slice_index_or b.registers i Nothing)) (sym at) ∙ covered_at ops a b i a.registers b.registers (values_of ops a b covered)) outside;
+    is_part = (at, is);
   }
 
 module _ {D : Type 0} (ops : Operations D) (registers groups : List (AbstractValue D)) (words : List ℕ) (proved : ℤ) (a b : AbsState D) (is : unpacked registers groups words proved ≡ a) where
@@ -199,8 +154,8 @@ module _ {D : Type 0} (ops : Operations D) (registers groups : List (AbstractVal
 
   pub word_differs : words_of (marks_of words) ≡ words → (others : List ℕ) (i : ℕ) → others ≡ words_of b.marks.cells → are_within words others ≡ false → Differs ops a b (part.Word i (slice_index_or words i 0))
   word_differs kept others i same outside = record {
-    uncovered = not_true (covers ops a b) (λ covered.
-        contradiction (are_within words others) (ap (λ (xs : List ℕ). are_within xs others) (sym (words_are kept)) ∙ ap (are_within (words_of a.marks.cells)) same ∙ covered_within ops a b covered) outside);
+    uncovered = ruled_out (covers ops a b) (are_within words others)
+        (λ covered. ap (λ (xs : List ℕ). are_within xs others) (sym (words_are kept)) ∙ ap (are_within (words_of a.marks.cells)) same ∙ covered_within ops a b covered) outside;
     is_part = ap (λ (xs : List ℕ). slice_index_or xs i 0) (words_are kept);
   }
 
