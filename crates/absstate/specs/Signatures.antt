@@ -1,5 +1,5 @@
 -- Interface. Signatures of states, by which most states that a state doesn't cover are ruled out.
-use Rattle.std.specs.Prelude.{ℕ, suc, ◌+◌, ◌-◌, ◌*◌, ◌/◌, ◌%◌, ◌^◌, ◌==◌, nat_lt, ◌&&◌, ◌||◌, Bool, List, [], ◌∷◌, bit_and, bit_or, if◌then◌else◌}
+use Rattle.std.specs.Prelude.{ℕ, suc, ◌+◌, ◌-◌, ◌*◌, ◌/◌, ◌%◌, ◌^◌, ◌==◌, nat_lt, ◌&&◌, ◌||◌, Bool, List, [], ◌∷◌, take, drop, bit_and, bit_or, if◌then◌else◌}
 use Rattle.std.specs.Int.{w32, w64, rotate_left, cast_unsigned}
 use Rattle.interval.specs.Domains.{Operations, span}
 use Rattle.interval.specs.declared.domain.Bounds.{Bounds}
@@ -7,6 +7,7 @@ use Rattle.absstate.specs.MarkWords.{words_of}
 use Rattle.absstate.specs.declared.abstract_state.AbstractValue.{AbstractValue}
 use Rattle.absstate.specs.declared.abstract_state.AbstractValue.TheVariants.{Nothing, Scalar, Ctx, Stack, Data, End}
 use Rattle.absstate.specs.declared.abstract_state.AbsState.{AbsState}
+use Rattle.absstate.specs.declared.abstract_state.TheConstants.{REGISTERS}
 use Rattle.absstate.specs.declared.signature.StateSignature.{StateSignature}
 
 -- one bit of 64, by a hash of an index, a kind and a number
@@ -68,7 +69,8 @@ bounds_hashes ops (v ∷ values) = (bounds_hash ops v + bounds_hashes ops values
 
 abbrev pub state_signature : {D : Type 0} → Operations D → AbsState D → StateSignature
 state_signature ops a = record {
-  values = value_bits ops 0 a.registers;
+  registers = value_bits ops 0 (take REGISTERS a.registers);
+  groups = value_bits ops REGISTERS (drop REGISTERS a.registers);
   marks = mark_bits 0 (words_of a.marks.cells);
   precisions = precisions ops a.registers;
   bounds = bounds_hashes ops a.registers;
@@ -77,4 +79,4 @@ state_signature ops a = record {
 -- all bits of a signature are bits of another one, of a state that is known more precisely or whose numbers have the same bounds
 abbrev pub lies_within : StateSignature → StateSignature → Bool
 lies_within s t =
-    (bit_and s.values t.values == s.values) && ((bit_and s.marks t.marks == s.marks) && (nat_lt s.precisions t.precisions || (s.bounds == t.bounds)))
+    (bit_and s.registers t.registers == s.registers) && ((bit_and s.groups t.groups == s.groups) && ((bit_and s.marks t.marks == s.marks) && (nat_lt s.precisions t.precisions || (s.bounds == t.bounds))))

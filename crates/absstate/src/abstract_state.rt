@@ -266,8 +266,11 @@ impl Marks {
     }
 }
 
+/// The number of registers.
+pub(crate) const REGISTERS: usize = 11;
+
 /// The number of values that a state knows: of the registers, and of the groups of the stack.
-pub const VALUES: usize = 11 + GROUPS;
+pub const VALUES: usize = REGISTERS + GROUPS;
 
 /// The abstract state at a slot: the registers and, after them, the pointers that the groups of the stack hold; the set bytes
 /// of the stack, and a least length of the datagram, `proved`.
@@ -324,7 +327,7 @@ impl<D: Copy> AbsState<D> {
         requires { group < GROUPS }
         ensures { result ≡ group_at self.now.registers group }
     {
-        self.registers[11 + group]
+        self.registers[REGISTERS + group]
     }
 
     /// Writes what is known of a group; a group of 64 or more is ignored.
@@ -332,7 +335,7 @@ impl<D: Copy> AbsState<D> {
         ensures { self.new ≡ record self.old { registers = slice_set self.old.registers (group_index group) known } }
     {
         if group < GROUPS {
-            self.registers[11 + group] = known;
+            self.registers[REGISTERS + group] = known;
         }
     }
 

@@ -4,11 +4,11 @@ ghost use Rattle.std.specs.Prelude.{◌≡◌, ◌≤◌, ◌<◌, ◌+◌, ◌+
 ghost use Rattle.absstate.specs.Covers.{covers_value, covers_values};
 ghost use Rattle.semantics.specs.declared.limits.TheConstants.{GROUPS};
 ghost use Rattle.absstate.specs.Packing.{are_unknown, joined, written_over, HoldGroups};
-ghost use Rattle.absstate.specs.declared.packed.TheConstants.{REGISTERS};
+ghost use Rattle.absstate.specs.declared.abstract_state.TheConstants.{REGISTERS};
 ghost use Rattle.absstate.specs.declared.abstract_state.AbsState.{AbsState};
 ghost use Rattle.absstate.specs.declared.abstract_state.AbstractValue.TheVariants.{Nothing};
 
-use crate::abstract_state::{AbsState, AbstractValue, Anchor, VALUES};
+use crate::abstract_state::{AbsState, AbstractValue, Anchor, REGISTERS, VALUES};
 use crate::chunk::{Chunk, push_chunks};
 use crate::covering::{covers_value, first_unlinked, proves_no_more, registers_of};
 use crate::mark_words::{MarkWords, first_outside};
@@ -16,9 +16,6 @@ use crate::part::Part;
 use interval::Domain;
 use std::alloc::{AllocError, Global};
 use std::marker::Model;
-
-/// The number of registers.
-const REGISTERS: usize = 11;
 
 /// A state that is kept: its marks are words, and its groups are there only where one holds a pointer, in chunks that kept
 /// states share.

@@ -4,17 +4,19 @@ ghost use Rattle.std.specs.Prelude.{◌≡◌, ◌≤◌, ◌+◌, ◌*◌, ◌^
 ghost use Rattle.absstate.specs.MarkWords.{words_of};
 ghost use Rattle.absstate.specs.Signatures.{hashed_bit, number_bit, value_bit, value_bits, mark_bits, precision, precisions, hashed_bounds, bounds_hash, bounds_hashes, state_signature, lies_within};
 
-use crate::abstract_state::{AbsState, AbstractValue};
+use crate::abstract_state::{AbsState, AbstractValue, REGISTERS};
 use crate::covering::registers_of;
 use crate::mark_words::MarkWords;
 use interval::{Bounds, Domain};
 
-/// What is compared of states first: two words that have a bit for each value that is known exactly, and for each mark; how
-/// precisely all values are known together; and the bounds of all numbers, hashed.
+/// What is compared of states first: words that have a bit for each register that is known exactly,
+/// for each such group, and for each mark; how precisely all values are known together; and the
+/// bounds of all numbers, hashed.
 /// See docs/DECISIONS.md, "What distinguishes a kept state".
 #[derive(Clone, Copy, Debug, PartialEq, Eq)]
 pub struct StateSignature {
-    values: u64,
+    registers: u64,
+    groups: u64,
     marks: u64,
     precisions: u64,
     bounds: u64,
@@ -161,7 +163,8 @@ impl StateSignature {
     pub fn lies_within(self, other: StateSignature) -> bool
         ensures { result ≡ lies_within self other }
     {
-        self.values & other.values == self.values
+        self.registers & other.registers == self.registers
+            && self.groups & other.groups == self.groups
             && self.marks & other.marks == self.marks
             && (self.precisions < other.precisions || self.bounds == other.bounds)
     }
@@ -178,8 +181,10 @@ impl<D: Domain> AbsState<D> {
         ensures { result ≡ state_signature D.ops self.now }
     {
         let values = registers_of(self);
+        let (registers, groups) = values.split_at(REGISTERS);
         StateSignature {
-            values: value_bits(0, values),
+            registers: value_bits(0, registers),
+            groups: value_bits(REGISTERS, groups),
             marks: mark_bits(0, words),
             precisions: precisions(values),
             bounds: bounds_hashes(values),

@@ -40,6 +40,21 @@ module _ {D : Type 0} (ops : Operations D) (a b : AbsState D) where
   covered_at zero (v ∷ vs) (u ∷ us) e = first_of_and (covers_value ops a b v u) (covers_values ops a b vs us) e
   covered_at (suc i) (v ∷ vs) (u ∷ us) e = covered_at i vs us (rest_of_and (covers_value ops a b v u) (covers_values ops a b vs us) e)
 
+  -- the first values, and those after them
+  pub covered_front : (n : ℕ) (vs us : List (AbstractValue D)) → covers_values ops a b vs us ≡ true → covers_values ops a b (take n vs) (take n us) ≡ true
+  covered_front zero vs us e = refl
+  covered_front (suc n) [] us e = refl
+  covered_front (suc n) (v ∷ vs) [] e = absurd cc
+  covered_front (suc n) (v ∷ vs) (u ∷ us) e =
+      both_true (covers_value ops a b v u) (covers_values ops a b (take n vs) (take n us)) (first_of_and (covers_value ops a b v u) (covers_values ops a b vs us) e)
+      (covered_front n vs us (rest_of_and (covers_value ops a b v u) (covers_values ops a b vs us) e))
+
+  pub covered_rest : (n : ℕ) (vs us : List (AbstractValue D)) → covers_values ops a b vs us ≡ true → covers_values ops a b (drop n vs) (drop n us) ≡ true
+  covered_rest zero vs us e = e
+  covered_rest (suc n) [] us e = refl
+  covered_rest (suc n) (v ∷ vs) [] e = absurd cc
+  covered_rest (suc n) (v ∷ vs) (u ∷ us) e = covered_rest n vs us (rest_of_and (covers_value ops a b v u) (covers_values ops a b vs us) e)
+
   -- ---- the parts of a state that covers another one
 
   abbrev values_covered : Bool

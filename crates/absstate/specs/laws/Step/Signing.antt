@@ -1,5 +1,5 @@
 -- Interface. Where one state covers another, its signature is within the other's.
-use Rattle.std.proofs.Common.{◌≡◌, ℕ, suc, ◌+◌, ◌*◌, ◌/◌, ◌-◌, ◌<◌, ◌≤◌, ◌%◌, ◌^◌, ◌⊎◌, inl, inr, ⊎_elim, Bool, true, false, ℤ, List, [], ◌∷◌, length, refl, sym, ap, ap₂, ◌∙◌, arith, bit_and, lt-ltb, le-ltb, eq-eqb}
+use Rattle.std.proofs.Common.{◌≡◌, ℕ, suc, ◌+◌, ◌*◌, ◌/◌, ◌-◌, ◌<◌, ◌≤◌, ◌%◌, ◌^◌, ◌⊎◌, inl, inr, ⊎_elim, Bool, true, false, ℤ, List, [], ◌∷◌, take, drop, length, refl, sym, ap, ap₂, ◌∙◌, arith, bit_and, lt-ltb, le-ltb, eq-eqb}
 use Rattle.std.specs.Prelude.{◌==◌, nat_lt, if◌then◌else◌}
 use Rattle.std.specs.Int.{w32, w64, rotate_left, cast_unsigned}
 use Rattle.std.specs.Int.Bits.{and_self}
@@ -12,11 +12,12 @@ use Rattle.absstate.specs.MarkWords.{words_of, are_within}
 use Rattle.absstate.specs.Signatures.{hashed_bit, number_bit, value_bit, value_bits, mark_bits, precision, precisions, hashed_bounds, bounds_hash, bounds_hashes, state_signature, lies_within}
 use Rattle.absstate.specs.laws.Step.Covering.{int_same}
 use Rattle.absstate.specs.laws.Step.MemoryValues.{first_of_and, rest_of_and, both_true}
-use Rattle.absstate.specs.laws.Step.Packing.{values_of}
+use Rattle.absstate.specs.laws.Step.Packing.{covered_front, covered_rest, values_of}
 use Rattle.absstate.specs.laws.Step.Words.{IsWithin, within_times, within_mod, within_or, nothing_within, same_number, covered_within}
 use Rattle.absstate.specs.declared.abstract_state.AbstractValue.{AbstractValue}
 use Rattle.absstate.specs.declared.abstract_state.AbstractValue.TheVariants.{Nothing, Scalar, Ctx, Stack, Data, End}
 use Rattle.absstate.specs.declared.abstract_state.AbsState.{AbsState}
+use Rattle.absstate.specs.declared.abstract_state.TheConstants.{REGISTERS}
 use Rattle.absstate.specs.declared.signature.StateSignature.{StateSignature}
 
 -- ---- marks
@@ -105,13 +106,14 @@ module _ {D : Type 0} (ops : Operations D) where
   both_ranked v u vs us (inr first) (inr rest) = inr (omega (arith, first.0, rest.0), ap₂ (λ (m n : ℕ). (m + n * 11400714819323198485 % 2 ^ 64) % 2 ^ 64) first.1 rest.1)
 
 -- a signature is within another one by its parts
-within_by_parts : (s t : StateSignature) → IsWithin s.values t.values → IsWithin s.marks t.marks → IsRanked s.precisions s.bounds t.precisions t.bounds → lies_within s t ≡ true
-within_by_parts s t values marks ranked =
-    both_true (bit_and s.values t.values == s.values) _ (same_number (bit_and s.values t.values) s.values values)
+within_by_parts : (s t : StateSignature) → IsWithin s.registers t.registers → IsWithin s.groups t.groups → IsWithin s.marks t.marks → IsRanked s.precisions s.bounds t.precisions t.bounds → lies_within s t ≡ true
+within_by_parts s t registers groups marks ranked =
+    both_true (bit_and s.registers t.registers == s.registers) _ (same_number (bit_and s.registers t.registers) s.registers registers)
+    (both_true (bit_and s.groups t.groups == s.groups) _ (same_number (bit_and s.groups t.groups) s.groups groups)
     (both_true (bit_and s.marks t.marks == s.marks) _ (same_number (bit_and s.marks t.marks) s.marks marks)
     (⊎_elim (λ less. or_left (nat_lt s.precisions t.precisions) (s.bounds == t.bounds) (lt-ltb s.precisions t.precisions less))
     (λ same. or_right (nat_lt s.precisions t.precisions) (s.bounds == t.bounds) (eq-eqb s.bounds t.bounds same.1))
-    ranked))
+    ranked)))
 
 module _ {D : Type 0} (ops : Operations D) (Member : D → ℕ → Type 0) (sound : AreSound ops Member) (a b : AbsState D) where
   value_within : (index : ℕ) (v u : AbstractValue D) → covers_value ops a b v u ≡ true → IsWithin (value_bit ops index v) (value_bit ops index u)
@@ -151,5 +153,8 @@ module _ {D : Type 0} (ops : Operations D) (Member : D → ℕ → Type 0) (soun
   -- where one state covers another, its signature is within the other's
   pub covered_signature : covers ops a b ≡ true → lies_within (state_signature ops a) (state_signature ops b) ≡ true
   covered_signature e =
-      within_by_parts (state_signature ops a) (state_signature ops b) (values_within 0 a.registers b.registers (values_of ops a b e))
-      (marks_within 0 (words_of a.marks.cells) (words_of b.marks.cells) refl (covered_within ops a b e)) (values_ranked a.registers b.registers (values_of ops a b e))
+      let values = values_of ops a b e in
+      within_by_parts (state_signature ops a) (state_signature ops b)
+      (values_within 0 (take REGISTERS a.registers) (take REGISTERS b.registers) (covered_front ops a b REGISTERS a.registers b.registers values))
+      (values_within REGISTERS (drop REGISTERS a.registers) (drop REGISTERS b.registers) (covered_rest ops a b REGISTERS a.registers b.registers values))
+      (marks_within 0 (words_of a.marks.cells) (words_of b.marks.cells) refl (covered_within ops a b e)) (values_ranked a.registers b.registers values)
