@@ -69,7 +69,7 @@ implied : (x y : Bool) → (not x || y) ≡ true → x ≡ true → y ≡ true
 implied true y e f = e
 implied false y e f = absurd cc
 
--- nothing shares an anchor with what is no place
+-- no value shares its anchor with one of which nothing is known
 never_shared : {D : Type 0} (w : AbstractValue D) → have_one_anchor w known.Nothing ≡ true → ⊥
 never_shared (known.Data x k) f = absurd cc
 never_shared w f = absurd cc
@@ -101,11 +101,12 @@ place_stands places id (v ∷ vs) (u ∷ us) (suc n) e lt lt' f =
 
 -- ---- values
 
-values_at : {D : Type 0} (ops : Operations D) (a b : AbsState D) (vs us : List (AbstractValue D)) (n : ℕ) → covers_values ops a b vs us ≡ true → n < length vs → n < length us → covers_value ops a b (slice_index_or vs n known.Nothing) (slice_index_or us n known.Nothing) ≡ true
-values_at ops a b [] us n e lt lt' = absurd (omega (arith, lt))
-values_at ops a b (v ∷ vs) [] n e lt lt' = absurd (omega (arith, lt'))
-values_at ops a b (v ∷ vs) (u ∷ us) zero e lt lt' = first_of_and (covers_value ops a b v u) (covers_values ops a b vs us) e
-values_at ops a b (v ∷ vs) (u ∷ us) (suc n) e lt lt' = values_at ops a b vs us n (rest_of_and (covers_value ops a b v u) (covers_values ops a b vs us) e) (omega (arith, lt)) (omega (arith, lt'))
+-- each value is covered by the one at its place
+pub values_at : {D : Type 0} (ops : Operations D) (a b : AbsState D) (vs us : List (AbstractValue D)) (n : ℕ) → covers_values ops a b vs us ≡ true → covers_value ops a b (slice_index_or vs n known.Nothing) (slice_index_or us n known.Nothing) ≡ true
+values_at ops a b [] us n e = refl
+values_at ops a b (v ∷ vs) [] n e = absurd cc
+values_at ops a b (v ∷ vs) (u ∷ us) zero e = first_of_and (covers_value ops a b v u) (covers_values ops a b vs us) e
+values_at ops a b (v ∷ vs) (u ∷ us) (suc n) e = values_at ops a b vs us n (rest_of_and (covers_value ops a b v u) (covers_values ops a b vs us) e)
 
 pub int_same : (p k : ℤ) → same_int p k ≡ true → p ≡ k
 int_same k l e = let p = le_of k l (first_of_and (int_le k l) (int_le l k) e) in let q = le_of l k (rest_of_and (int_le k l) (int_le l k) e) in omega (arith, ints, p, q)
@@ -186,7 +187,7 @@ member_covered ops Member sound a b s count marks_count e member =
             let lt : n < length a.registers = omega (arith, count, in_eleven r) in
             let lt' : n < length b.registers = omega (arith, m.known_count, in_eleven r) in
             value_covered ops Member sound member.places more s.memory.length a b m.reaches (abstract_at a.registers r) (abstract_at b.registers r) (value_at s.registers r)
-            (values_at ops a b a.registers b.registers n (first_of_and (covers_values ops a b a.registers b.registers) (share_alike a.registers b.registers) values) lt lt')
+            (values_at ops a b a.registers b.registers n (first_of_and (covers_values ops a b a.registers b.registers) (share_alike a.registers b.registers) values))
             (λ id f. place_stands member.places id a.registers b.registers n (rest_of_and (covers_values ops a b a.registers b.registers) (share_alike a.registers b.registers) values) lt lt' f)
             (m.registers r);
         groups = λ g below.
@@ -194,7 +195,7 @@ member_covered ops Member sound a b s count marks_count e member =
             let lt : n < length a.registers = omega (arith, count, below) in
             let lt' : n < length b.registers = omega (arith, m.known_count, below) in
             value_covered ops Member sound member.places more s.memory.length a b m.reaches (group_at a.registers g) (group_at b.registers g) (pointer_in s.memory.stack.groups g)
-            (values_at ops a b a.registers b.registers n (first_of_and (covers_values ops a b a.registers b.registers) (share_alike a.registers b.registers) values) lt lt')
+            (values_at ops a b a.registers b.registers n (first_of_and (covers_values ops a b a.registers b.registers) (share_alike a.registers b.registers) values))
             (λ id f. place_stands member.places id a.registers b.registers n (rest_of_and (covers_values ops a b a.registers b.registers) (share_alike a.registers b.registers) values) lt lt' f)
             (m.groups g below);
         cells = λ i lt. record { held = λ f. (m.cells i lt).held (marks_at a.marks.cells b.marks.cells i marks f); no_other = λ f. loose_only (is_some (slice_index_or s.memory.stack.cells i None)) (is_marked a.marks i) f };

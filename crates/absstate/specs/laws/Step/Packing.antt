@@ -8,6 +8,7 @@ use Rattle.std.proofs.lemmas.List.{length-take-le, take_all, take_at, drop_at, d
 use Rattle.absstate.specs.AbstractStates.{no_groups}
 use Rattle.absstate.specs.MarkWords.{words_of, are_within, marks_of}
 use Rattle.absstate.specs.Packing.{are_unknown, all_groups, joined, unpacked, IsPartOf, Differs}
+use Rattle.absstate.specs.laws.Step.Covering.{values_at}
 use Rattle.absstate.specs.laws.Step.Words.{covered_within, marks_of_words, words_cover}
 use Rattle.absstate.specs.laws.Step.MemoryValues.{first_of_and, rest_of_and, both_true}
 use Rattle.absstate.specs.declared.abstract_state.AbstractValue.{AbstractValue}
@@ -33,13 +34,6 @@ item_after i (x ∷ xs) d = let next : i + 1 ≡ suc i = omega arith in ap (λ (
 -- ---- the values of a state that covers another one
 
 module _ {D : Type 0} (ops : Operations D) (a b : AbsState D) where
-  -- each value is covered by the one at its place
-  pub covered_at : (i : ℕ) (vs us : List (AbstractValue D)) → covers_values ops a b vs us ≡ true → covers_value ops a b (slice_index_or vs i Nothing) (slice_index_or us i Nothing) ≡ true
-  covered_at i [] us e = refl
-  covered_at i (v ∷ vs) [] e = absurd cc
-  covered_at zero (v ∷ vs) (u ∷ us) e = first_of_and (covers_value ops a b v u) (covers_values ops a b vs us) e
-  covered_at (suc i) (v ∷ vs) (u ∷ us) e = covered_at i vs us (rest_of_and (covers_value ops a b v u) (covers_values ops a b vs us) e)
-
   -- the first values, and those after them
   pub covered_front : (n : ℕ) (vs us : List (AbstractValue D)) → covers_values ops a b vs us ≡ true → covers_values ops a b (take n vs) (take n us) ≡ true
   covered_front zero vs us e = refl
@@ -159,7 +153,7 @@ module _ {D : Type 0} (ops : Operations D) (a b : AbsState D) where
   pub value_differs : (i : ℕ) (v : AbstractValue D) (proved : ℤ) → slice_index_or a.registers i Nothing ≡ v → a.proved ≡ proved → covers_value ops a b v (slice_index_or b.registers i Nothing) ≡ false → Differs ops a b (part.Value i v proved)
   value_differs i v proved at is outside = record {
     uncovered = ruled_out (covers ops a b) (covers_value ops a b v (slice_index_or b.registers i Nothing))
-        (λ covered. ap (λ (x : AbstractValue D). covers_value ops a b x (slice_index_or b.registers i Nothing)) (sym at) ∙ covered_at ops a b i a.registers b.registers (values_of ops a b covered)) outside;
+        (λ covered. ap (λ (x : AbstractValue D). covers_value ops a b x (slice_index_or b.registers i Nothing)) (sym at) ∙ values_at ops a b a.registers b.registers i (values_of ops a b covered)) outside;
     is_part = (at, is);
   }
 
