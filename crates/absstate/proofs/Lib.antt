@@ -1,4 +1,4 @@
 pub mod Loads
 pub mod Raising
-pub mod Standing
+pub mod Linking
 pub mod Generality

@@ -1,11 +1,12 @@
 //! Whether one abstract state covers another: then each machine state that the other one describes it describes too.
 
-ghost use Rattle.std.specs.Prelude.{◌≡◌, ◌<◌, true, false, length, int_le, slice_index_or, IfNone, IfSome};
+ghost use Rattle.std.specs.Prelude.{◌≡◌, ◌<◌, ◌≤◌, true, false, length, int_le, slice_index, slice_index_or, EachIndex, IfNone, IfSome};
+ghost use Rattle.absstate.specs.declared.abstract_state.TheConstants.{VALUES};
 ghost use Rattle.absstate.specs.declared.abstract_state.AbsState.{AbsState};
 ghost use Rattle.absstate.specs.declared.abstract_state.AbstractValue.TheVariants.{Nothing};
-ghost use Rattle.absstate.specs.Covers.{same_int, same_anchor, covers_places, covers_anchor, covers_value, covers_values, have_one_anchor, is_place, stands_for, share_alike, covers_marks, covers_memory, covers};
+ghost use Rattle.absstate.specs.Covers.{same_int, same_anchor, covers_places, covers_anchor, covers_value, covers_values, have_one_anchor, is_place, share_alike, covers_marks, covers_memory, covers};
 
-use crate::abstract_state::{AbsState, AbstractValue, Anchor};
+use crate::abstract_state::{AbsState, AbstractValue, Anchor, VALUES};
 use interval::Domain;
 
 fn same_offset(a: i32, b: i32) -> bool
@@ -102,34 +103,6 @@ pub(crate) fn shared<D: Copy>(a: AbstractValue<D>, b: AbstractValue<D>) -> bool
     }
 }
 
-/// Returns the index of the first of `values` that shares its anchor with `a`, while the one of
-/// `others` at its place doesn't share its anchor with `b`.
-fn first_apart<D: Copy>(
-    a: AbstractValue<D>,
-    b: AbstractValue<D>,
-    values: &[AbstractValue<D>],
-    others: &[AbstractValue<D>],
-) -> Option<usize>
-    ensures none { IfNone result (stands_for a b values.now others.now ≡ true) }
-    ensures found { IfSome result (λ i. (i < length values.now)
-        × (have_one_anchor a (slice_index_or values.now i Nothing) ≡ true)) }
-    ensures some { IfSome result (λ i. stands_for a b values.now others.now ≡ false) }
-{
-    match values {
-        [] => None,
-        [first, values @ ..] => match others {
-            [] => None,
-            [second, others @ ..] => {
-                if shared(a, *first) && !shared(b, *second) {
-                    return Some(0);
-                }
-                let index = first_apart(a, b, values, others)?;
-                Some(index + 1)
-            }
-        },
-    }
-}
-
 /// Returns whether a value is a place of the datagram.
 fn is_place<D: Copy>(value: AbstractValue<D>) -> bool
     ensures { result ≡ is_place value }
@@ -140,54 +113,67 @@ fn is_place<D: Copy>(value: AbstractValue<D>) -> bool
     }
 }
 
-/// Returns what [`first_apart`] returns, and looks through the others for a place alone.
-fn first_apart_of_place<D: Copy>(
-    a: AbstractValue<D>,
-    b: AbstractValue<D>,
+/// Returns where `firsts` lists the first value that shares its anchor with `value`.
+fn met_at<D: Copy>(
     values: &[AbstractValue<D>],
-    others: &[AbstractValue<D>],
+    firsts: &[usize],
+    value: AbstractValue<D>,
 ) -> Option<usize>
-    ensures none { IfNone result (stands_for a b values.now others.now ≡ true) }
-    ensures found { IfSome result (λ i. (i < length values.now)
-        × (have_one_anchor a (slice_index_or values.now i Nothing) ≡ true)) }
-    ensures some { IfSome result (λ i. stands_for a b values.now others.now ≡ false) }
+    requires { EachIndex firsts.now (λ k. slice_index firsts.now k < length values.now) }
+    ensures none { IfNone result (EachIndex firsts.now (λ k. have_one_anchor
+        (slice_index_or values.now (slice_index firsts.now k) Nothing) value ≡ false)) }
+    ensures found { IfSome result (λ k. (k < length firsts.now) × (have_one_anchor
+        (slice_index_or values.now (slice_index firsts.now k) Nothing) value ≡ true)) }
 {
-    if is_place(a) {
-        first_apart(a, b, values, others)
-    } else {
-        None
+    for (k, first) in firsts.iter().enumerate() {
+        if shared(values[*first], value) {
+            return Some(k);
+        }
     }
+    None
 }
 
-/// Returns the indexes of the first two of `values` at one anchor, while those of `others` at their
-/// places aren't.
+/// Returns the indexes of two of `values` at one anchor, while those of `others` at their places
+/// aren't, the lower one first.
 pub(crate) fn first_unlinked<D: Copy>(
     values: &[AbstractValue<D>],
     others: &[AbstractValue<D>],
 ) -> Option<(usize, usize)>
+    requires few { length values.now ≤ VALUES }
+    requires paired { length others.now ≡ length values.now }
     ensures none { IfNone result (share_alike values.now others.now ≡ true) }
     ensures found { IfSome result (λ p. (p.0 < p.1) × (p.1 < length values.now)
         × (have_one_anchor (slice_index_or values.now p.0 Nothing)
         (slice_index_or values.now p.1 Nothing) ≡ true)) }
     ensures some { IfSome result (λ p. share_alike values.now others.now ≡ false) }
 {
-    match values {
-        [] => None,
-        [a, values @ ..] => match others {
-            [] => None,
-            [b, others @ ..] => {
-                if let Some(index) = first_apart_of_place(*a, *b, values, others) {
-                    return Some((0, index + 1));
-                }
-                let (first, second) = first_unlinked(values, others)?;
-                Some((first + 1, second + 1))
+    let mut firsts = [0; VALUES];
+    let mut met = 0;
+    for i in 0..values.len() {
+        let value = values[i];
+        if !is_place(value) {
+            continue;
+        }
+        match met_at(values, &firsts[..met], value) {
+            None => {
+                firsts[met] = i;
+                met += 1;
             }
-        },
+            Some(k) => {
+                let first = firsts[k];
+                if !shared(others[first], others[i]) {
+                    return Some((first, i));
+                }
+            }
+        }
     }
+    None
 }
 
 /// Returns whether values at one anchor stand for values at one anchor.
 fn share_alike<D: Copy>(values: &[AbstractValue<D>], others: &[AbstractValue<D>]) -> bool
+    requires few { length values.now ≤ VALUES }
+    requires paired { length others.now ≡ length values.now }
     ensures { result ≡ share_alike values.now others.now }
 {
     first_unlinked(values, others).is_none()
