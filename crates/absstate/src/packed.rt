@@ -158,6 +158,21 @@ impl<D: Domain> PackedState<D> {
         self.proved
     }
 
+    /// Returns the first register, with its index, that doesn't cover the one of another state.
+    /// `other_proved` is the other's proved length.
+    fn uncovered_register(
+        &self,
+        others: &[AbstractValue<D>],
+        other_proved: i64,
+    ) -> Option<(usize, AbstractValue<D>)>
+        requires { REGISTERS ≤ length others.now }
+        ensures found { IfSome result (λ f. slice_index_or self.now.registers f.0 Nothing ≡ f.1) }
+        ensures some { (b : AbsState D) → b.proved ≡ other_proved → IfSome result
+            (λ f. covers_value D.ops self.now b f.1 (slice_index_or others.now f.0 Nothing) ≡ false) }
+    {
+        first_uncovered(&self.registers, others, self.proved(), other_proved)
+    }
+
     /// Returns the part in which a state, whose marks are these words, is found to differ from this one, which doesn't cover it.
     /// `None` is a state that it covers: each member of that one is a member of this one.
     pub fn difference(&self, other: &AbsState<D>, words: &MarkWords) -> Option<Part<D>>
@@ -176,6 +191,13 @@ impl<D: Domain> PackedState<D> {
         }
         let _marks = other.marks.cells();
         let others = registers_of(other);
+        if let Some((index, value)) = self.uncovered_register(others, other_proved) {
+            return Some(Part::Value {
+                index,
+                value,
+                proved,
+            });
+        }
         let values = self.values();
         if let Some((index, value)) = first_uncovered(&values, others, proved, other_proved) {
             return Some(Part::Value {

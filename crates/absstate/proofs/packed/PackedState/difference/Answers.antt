@@ -17,6 +17,13 @@ returns-then-not-proves_no_more-clause-some g c =
     let more : int_le c.args.self.now.proved c.args.other.now.proved ≡ false = search rules in
     proved_differs g.D.Domain.ops c.args.self.now c.args.other.now _ (search rules) more
 
+pub returns-in-Some-uncovered_register-clause-some : goal.returns-in-Some-uncovered_register-clause-some
+returns-in-Some-uncovered_register-clause-some g c =
+    value_differs g.D.Domain.ops c.args.self.now c.args.other.now c.in-Some-uncovered_register.index c.in-Some-uncovered_register.value _
+    c.in-Some-uncovered_register.ensures.found (search rules)
+    (ap (λ (xs : List (AbstractValue g.row.D.Denot)). covers_value g.D.Domain.ops c.args.self.now c.args.other.now c.in-Some-uncovered_register.value (slice_index_or xs c.in-Some-uncovered_register.index Nothing)) (sym c.registers_of-others.ensures.values)
+    ∙ c.in-Some-uncovered_register.ensures.some c.args.other.now (search rules))
+
 pub returns-in-Some-first_uncovered-clause-some : goal.returns-in-Some-first_uncovered-clause-some
 returns-in-Some-first_uncovered-clause-some g c =
     value_differs g.D.Domain.ops c.args.self.now c.args.other.now c.in-Some-first_uncovered.index c.in-Some-first_uncovered.value _
