@@ -12,7 +12,7 @@ use interval::{Bounds, Domain};
 /// What is compared of states first: words that have a bit for each register that is known exactly,
 /// for each such group, and for each mark; how precisely all values are known together; and the
 /// bounds of all numbers, hashed.
-/// See docs/DECISIONS.md, "What distinguishes a kept state".
+/// See docs/DESIGN.md, "What distinguishes a kept state".
 #[derive(Clone, Copy, Debug, PartialEq, Eq)]
 pub struct StateSignature {
     registers: u64,

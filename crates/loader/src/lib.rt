@@ -5,6 +5,6 @@ mod loaded;
 mod loading;
 mod refusal;
 
-pub use loaded::{BUDGET, Loaded, law_limits, load};
+pub use loaded::{BUDGET, Loaded, WEIGHT, law_limits, load};
 pub use loading::{LoadProgress, Loading, Remains};
 pub use refusal::LoadError;

@@ -1,6 +1,6 @@
 //! Loading: from bytes to a program that can run.
 
-ghost use Rattle.std.specs.Prelude.{◌≡◌, ◌<◌, ◌≤◌, ℕ, List, IfOk, IfErr};
+ghost use Rattle.std.specs.Prelude.{◌≡◌, ◌<◌, ◌≤◌, ◌^◌, ℕ, List, IfOk, IfErr};
 ghost use Rattle.insn.specs.Encoding.{Encodes, slot_count};
 ghost use Rattle.insn.specs.Refusal.{IsRefused, IsWhole};
 ghost use Rattle.insn.specs.declared.instruction.Insn.{Insn};
@@ -24,9 +24,14 @@ use verifier::{Refusal, Steps, Verified, verify};
 /// The number of abstract steps that the verification of a program may take.
 pub const BUDGET: usize = 100_000;
 
-/// States the budget.
+/// What the verification of a program that is loaded in slices may weigh: some 5 seconds of a processor.
+/// See docs/DECISIONS.md, "What work weighs".
+pub const WEIGHT: usize = 1 << 32;
+
+/// States the budget, and the weight.
 pub fn law_limits()
     ensures budget { BUDGET ≡ 100000 }
+    ensures weight { WEIGHT ≡ 2 ^ 32 }
 {}
 
 /// A loaded program: its bytes encode it, and every run of it exits. Only [`load`] and [`Loading`](crate::Loading) make one.

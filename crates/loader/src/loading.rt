@@ -9,9 +9,10 @@ ghost use Rattle.semantics.specs.declared.reason.Reason.{Reason};
 ghost use Rattle.verifier.specs.Layout.{IsLayoutFault};
 ghost use Rattle.loader.specs.Loads.{IsLoadRefusal, IsUnlessMemory};
 ghost use Rattle.loader.specs.Slices.{IsSliceOf};
+ghost use Rattle.loader.specs.declared.loaded.TheConstants.{WEIGHT};
 ghost use Rattle.loader.specs.declared.refusal.LoadError.TheVariants.{Decode, Verify};
 
-use crate::loaded::{BUDGET, Loaded};
+use crate::loaded::{BUDGET, Loaded, WEIGHT};
 use crate::refusal::LoadError;
 use insn::decode;
 use interval::Interval;
@@ -24,17 +25,18 @@ use verifier::{Progress, Refusal, Steps, Walk};
 #[derive(Drop)]
 pub struct Loading {
     walk: Walk<Interval>,
+    /// What its verification may still weigh.
+    left: usize,
 }
 
 impl Model for Loading {
     ghost use Rattle.std.specs.Prelude.{◌≡◌};
-    ghost use Rattle.interval.specs.declared.interval.Interval.{Interval};
     ghost use Rattle.loader.specs.declared.loaded.TheConstants.{BUDGET};
-    ghost use Rattle.verifier.specs.Slices.{Walking};
+    ghost use Rattle.loader.specs.LoadingWalk.{LoadingWalk};
 
-    ghost Value = { Walking Interval };
+    ghost Value = { LoadingWalk };
 
-    ghost view = { λ l. l.walk };
+    ghost view = { λ l. record { walk = l.walk; left = l.left } };
 
     ghost invariant = { λ l. l.walk.budget ≡ BUDGET };
 }
@@ -44,6 +46,8 @@ impl Model for Loading {
 pub enum LoadProgress {
     /// It goes on.
     Going(Loading),
+    /// It is given up: its verification takes too long. What this has kept is still there.
+    GivenUp(Remains),
     /// It has ended: the program is loaded, or refused. What the verification has kept is still there.
     Ended(Result<Loaded, Refusal>, Remains),
 }
@@ -102,7 +106,8 @@ impl Loading {
     /// E1 to E7 where the bytes encode no program; V1 to V4 where its layout is faulty. E8, and V19 at slot 0, where memory
     /// runs out.
     pub fn new(alloc: Global, bytes: &[u8]) -> Result<Loading, LoadError>
-        ensures begun { IfOk result (λ l. Encodes l.code bytes.now) }
+        ensures begun { IfOk result (λ l. Encodes l.walk.code bytes.now) }
+        ensures left { IfOk result (λ l. l.left ≡ WEIGHT) }
         ensures refused { IfErr result (IsLoadRefusal bytes.now) }
         ensures decode { (e : DecodeError) → IsRefused bytes.now e → IsUnlessMemory (Decode e) result }
         ensures layout { (code : List Insn) (reason : Reason) (slot : ℕ)
@@ -111,24 +116,30 @@ impl Loading {
     {
         let code = decode(alloc, bytes)?;
         let walk = Walk::new(alloc, &code, BUDGET)?;
-        Ok(Loading { walk })
+        Ok(Loading { walk, left: WEIGHT })
     }
 
     /// Gives the loading up, and returns what its verification has kept.
     pub fn into_remains(self) -> Remains
-        ensures { result ≡ units_to_free self.kept }
+        ensures { result ≡ units_to_free self.walk.kept }
     {
         let states = self.walk.into_remains();
         Remains { states }
     }
 
-    /// Goes on by `slice` units of work, or fewer where the verification ends. Whatever the slices are, it ends as
-    /// [`load`](crate::load) does.
+    /// Goes on by work of the weight `slice`, or less where the verification ends. Whatever the slices are, it ends as
+    /// [`load`](crate::load) does; or it is given up, where it hasn't ended after slices of the weight [`WEIGHT`] in all.
     pub fn advance(self, slice: usize) -> LoadProgress
         ensures { IsLoadSlice self slice result }
     {
         match advanced(self.walk, slice) {
-            Progress::Going(walk) => LoadProgress::Going(Loading { walk }),
+            Progress::Going(walk) if slice < self.left => LoadProgress::Going(Loading {
+                walk,
+                left: self.left - slice,
+            }),
+            Progress::Going(walk) => LoadProgress::GivenUp(Remains {
+                states: walk.into_remains(),
+            }),
             Progress::Ended(result, states) => {
                 let remains = Remains { states };
                 match result {

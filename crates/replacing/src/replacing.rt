@@ -10,8 +10,8 @@ use std::io::Write;
 use std::mem;
 use std::rt::Files;
 
-/// How many units of work of a verification are done before the clock is read again.
-const SLICE: usize = 4;
+/// By how much a verification goes on before the clock is read again, by weight: some ten microseconds.
+const SLICE: usize = 8_192;
 
 /// How many units of work are done of freeing what a verification has kept, before the clock is read again.
 const FREED: usize = 64;
@@ -131,6 +131,14 @@ impl<'a> Side<'a> {
         }
     }
 
+    /// Reports that the program is given up, since it takes too long to verify, and keeps its bytes, so that it is reported once.
+    fn give_up<E: Write>(&mut self, err: &mut E, bytes: Vec<u8>) {
+        if let Some(path) = self.path {
+            let _ = writeln!(err, "cannot use {path}: it takes too long to verify");
+        }
+        self.watched.refuse(bytes);
+    }
+
     /// Reads the file, if there is one. One that can't be used is reported once, until it can be.
     fn read<R: Files + AllocGlobal, E: Write>(&mut self, rt: &R, err: &mut E) -> Option<Vec<u8>> {
         let path = self.path?;
@@ -174,6 +182,10 @@ impl<'a> Side<'a> {
         match mem::replace(&mut self.next, Next::Nothing) {
             Next::Verifying { loading, bytes } => match loading.advance(SLICE) {
                 LoadProgress::Going(loading) => self.next = Next::Verifying { loading, bytes },
+                LoadProgress::GivenUp(remains) => {
+                    self.remains = Some(remains);
+                    self.give_up(err, bytes);
+                }
                 LoadProgress::Ended(result, remains) => {
                     self.remains = Some(remains);
                     match result {

@@ -3,6 +3,7 @@ pub mod Layout
 pub mod Targets
 pub mod Signed
 pub mod Keeping
+pub mod Searches
 pub mod Walk
 pub mod Walks
 pub mod Refusing

@@ -11,6 +11,7 @@ use Rattle.verifier.specs.declared.refusal.Refusal.TheVariants as refusal
 use Rattle.verifier.specs.declared.slices.Progress.{Progress}
 use Rattle.verifier.specs.declared.slices.Progress.TheVariants as progress
 use Rattle.verifier.specs.declared.walk.Verified.{Verified}
+use Rattle.verifier.specs.declared.weights.TheConstants.{HEAVIEST}
 
 -- a walk over a program of which no step is made
 pub record IsNewWalk {D : Type 0} (code : List Insn) (budget : ℕ) (w : Walking D) : Type 0 where
@@ -23,13 +24,14 @@ pub record IsNewWalk {D : Type 0} (code : List Insn) (budget : ℕ) (w : Walking
 abbrev pub MayRefuseStart : List Insn → Refusal → Type 0
 MayRefuseStart code e = IsLayoutRefusal code e ⊎ ((e ≡ refusal.Memory 0) × IsLaidOut code)
 
--- the walk goes on: so many units of work more are done, and their steps are counted
+-- the walk goes on: so much work more is done, by weight, or was done before, and its steps are counted
 pub record GoesOnBy {D : Type 0} (w next : Walking D) (slice old new : ℕ) : Type 0 where
   pub code_is : next.code ≡ w.code
   pub budget_is : next.budget ≡ w.budget
   pub count : new + w.made ≡ old + next.made
   pub few : new ≤ old + slice
-  pub less : work_left next.budget next.made next.waits + slice ≤ work_left w.budget w.made w.waits
+  pub less : work_left next + slice ≤ work_left w
+  pub light : next.ahead ≤ HEAVIEST
 
 -- The walk ends: with the steps of all its slices, whatever they were, the result is a verdict on its code, and that of the walk
 -- from its start.

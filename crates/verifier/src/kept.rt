@@ -1,19 +1,19 @@
 //! The states that the walk keeps, at the slots that jumps lead to.
 
 ghost use Rattle.std.specs.Prelude.{◌≡◌, ◌≤◌, ◌<◌, ℕ, true, false, None, [], length, slice_index_or, OnOk, IfOk, IfSome, IfNone, is_some};
-ghost use Rattle.std.specs.List.{list_any};
 ghost use Rattle.insn.specs.Encoding.{slot_count};
 ghost use Rattle.insn.specs.declared.decoding.TheConstants.{MAX_SLOTS};
-ghost use Rattle.absstate.specs.Covers.{covers};
 ghost use Rattle.absstate.specs.MarkWords.{words_of};
 ghost use Rattle.absstate.specs.Signatures.{lies_within};
 ghost use Rattle.absstate.specs.declared.signature.StateSignature.{StateSignature};
 ghost use Rattle.verifier.specs.Targets.{target_at};
 ghost use Rattle.verifier.specs.Signed.{signatures_of};
-ghost use Rattle.verifier.specs.Keeping.{states_of, states_with, kept_at, keeps_at, is_covered, HasCover, KeepsNothing, KeepsAtTargets, MarksTarget, Keeps};
+ghost use Rattle.verifier.specs.Searches.{HasPassed, Finds, Weighs};
+ghost use Rattle.verifier.specs.Keeping.{states_of, states_with, kept_at, keeps_at, KeepsNothing, KeepsAtTargets, MarksTarget, Keeps};
 
 use crate::layout::distance;
 use crate::walk::Pending;
+use crate::weights::{PART, SEARCH, WHOLE};
 use absstate::{AbsState, PackedState, Part, StateSignature};
 use insn::MAX_SLOTS;
 use interval::Domain;
@@ -22,7 +22,7 @@ use std::alloc::{AllocError, Global};
 use std::marker::Model;
 
 /// A kept state, with the part of it in which it last differed from another one.
-/// See docs/DECISIONS.md, "What distinguishes a kept state".
+/// See docs/DESIGN.md, "What distinguishes a kept state".
 #[derive(Drop)]
 pub struct KeptState<D: Domain> {
     part: Part<D>,
@@ -80,11 +80,12 @@ impl<D: Domain> Model for Kept<D> {
 }
 
 impl<D: Domain> KeptState<D> {
-    ghost use Rattle.std.specs.Prelude.{◌≡◌, true, IfOk};
+    ghost use Rattle.std.specs.Prelude.{◌≡◌, ◌≤◌, ◌+◌, true, IfOk};
     ghost use Rattle.semantics.specs.Machine.{State};
     ghost use Rattle.absstate.specs.Covers.{covers};
     ghost use Rattle.absstate.specs.MarkWords.{words_of};
     ghost use Rattle.absstate.specs.Membership.{Loose, IsMember};
+    ghost use Rattle.verifier.specs.declared.weights.TheConstants.{PART, SEARCH, WHOLE};
 
     /// Returns a state as it is kept. It shares what it can with a state that is kept already.
     ///
@@ -111,16 +112,22 @@ impl<D: Domain> KeptState<D> {
     }
 
     /// Returns whether this state covers another one, whose marks are these words. Where it doesn't, the part that shows it is
-    /// looked at first the next time.
-    fn covers(&mut self, state: &AbsState<D>, words: &[u64; 8]) -> bool
-        requires { words.now ≡ words_of state.now.marks.cells }
+    /// looked at first the next time. What it weighs is added to a weight.
+    fn covers(&mut self, state: &AbsState<D>, words: &[u64; 8], weight: &mut usize) -> bool
+        requires words { words.now ≡ words_of state.now.marks.cells }
+        requires room { weight.old ≤ SEARCH }
         ensures same { self.new ≡ self.old }
         ensures value { result ≡ covers D.ops self.old state.now }
         ensures members { result ≡ true → (s : State) → IsMember D.Member Loose state.now s → IsMember D.Member Loose self.old s }
+        ensures part { weight.old + PART ≤ weight.new }
+        ensures whole { result ≡ true → weight.new ≡ weight.old + PART + WHOLE }
+        ensures most { weight.new ≤ weight.old + PART + WHOLE }
     {
+        *weight += PART;
         if self.part.rules_out(state, words) {
             return false;
         }
+        *weight += WHOLE;
         match self.state.difference(state, words) {
             None => true,
             Some(part) => {
@@ -131,49 +138,79 @@ impl<D: Domain> KeptState<D> {
     }
 }
 
-/// Returns the index of the first signature, from an index on, that is within another one; their number where none is.
-fn next_within(signatures: &[StateSignature], other: StateSignature, from: usize) -> usize
-    requires { from ≤ length signatures.now }
+/// What a search for a kept state that covers another one has come to.
+#[derive(Clone, Copy)]
+pub(crate) enum Search {
+    /// One of the kept states covers it.
+    Covered,
+    /// None of them does.
+    Uncovered,
+    /// None of the first ones does, of which there are so many. The others are still to be compared.
+    Open { passed: usize },
+}
+
+/// Returns the index of the first signature, from an index on and before an end, that is within another one; the end where none
+/// is.
+fn next_within(
+    signatures: &[StateSignature],
+    other: StateSignature,
+    from: usize,
+    end: usize,
+) -> usize
+    requires after { from ≤ end }
+    requires inside { end ≤ length signatures.now }
     ensures after { from ≤ result }
-    ensures inside { result ≤ length signatures.now }
+    ensures inside { result ≤ end }
     ensures none { (i : ℕ) → (s : StateSignature) → from ≤ i → i < result → slice_index_or signatures.now i s ≡ s → lies_within s other ≡ false }
 {
     let mut next = from;
-    while next < signatures.len() && !signatures[next].lies_within(other) {
+    while next < end && !signatures[next].lies_within(other) {
         next += 1;
     }
     next
 }
 
-/// Returns whether one of some states, each with its signature, covers a state, whose marks are these words.
-fn one_covers<D: Domain>(
+/// Searches some states, each with its signature, for one that covers a state. None of the first `passed` does. Returns what it
+/// weighs, too: it is left at [`SEARCH`].
+fn search_among<D: Domain>(
     signatures: &[StateSignature],
     states: &mut Vec<KeptState<D>>,
     state: &AbsState<D>,
-    words: &[u64; 8],
-) -> bool
+    passed: usize,
+) -> (Search, usize)
     requires signatures { signatures.now ≡ signatures_of D.ops states.old.items }
-    requires words { words.now ≡ words_of state.now.marks.cells }
+    requires passed { HasPassed D.ops states.old.items passed state.now }
     ensures same { states.new.items ≡ states.old.items }
-    ensures value { result ≡ list_any (λ kept. covers D.ops kept state.now) states.old.items }
-    ensures members { result ≡ true → HasCover D.Member states.old.items state.now }
+    ensures found { Finds D.ops D.Member states.old.items passed state.now result.0 }
+    ensures weight { Weighs result.0 (length states.old.items) passed result.1 }
 {
-    let signature = state.signature(words);
-    let mut at = next_within(signatures, signature, 0);
-    while at < states.len() {
-        if states[at].covers(state, words) {
-            return true;
+    let words = state.words();
+    let signature = state.signature(&words);
+    let mut at = passed;
+    let mut weight = 0;
+    while at < states.len() && weight < SEARCH {
+        let end = at + (states.len() - at).min(SEARCH - weight);
+        let next = next_within(signatures, signature, at, end);
+        weight += next - at;
+        at = next;
+        if at < end {
+            weight += 1;
+            if states[at].covers(state, &words, &mut weight) {
+                return (Search::Covered, weight);
+            }
+            at += 1;
         }
-        at = next_within(signatures, signature, at + 1);
     }
-    false
+    if at < states.len() {
+        (Search::Open { passed: at }, weight)
+    } else {
+        (Search::Uncovered, weight)
+    }
 }
 
 impl<D: Domain> States<D> {
     ghost use Rattle.std.specs.Prelude.{◌≡◌, ◌++◌, ◌∷◌, [], true, OnOk};
-    ghost use Rattle.std.specs.List.{list_any};
-    ghost use Rattle.absstate.specs.Covers.{covers};
-    ghost use Rattle.verifier.specs.Keeping.{HasCover};
+    ghost use Rattle.verifier.specs.Searches.{HasPassed, Finds, Weighs};
 
     /// Returns no states.
     fn new(alloc: Global) -> States<D>
@@ -185,17 +222,17 @@ impl<D: Domain> States<D> {
         }
     }
 
-    /// Returns whether one of the states covers a state.
-    fn cover(&mut self, state: &AbsState<D>) -> bool
+    /// Searches the states for one that covers a state. None of the first `passed` does. Returns what it weighs, too.
+    fn search(&mut self, state: &AbsState<D>, passed: usize) -> (Search, usize)
+        requires { HasPassed D.ops self.old passed state.now }
         ensures same { self.new ≡ self.old }
-        ensures value { result ≡ list_any (λ kept. covers D.ops kept state.now) self.old }
-        ensures members { result ≡ true → HasCover D.Member self.old state.now }
+        ensures found { Finds D.ops D.Member self.old passed state.now result.0 }
+        ensures weight { Weighs result.0 (length self.old) passed result.1 }
     {
         if self.states.is_empty() {
-            return false;
+            return (Search::Uncovered, 0);
         }
-        let words = state.words();
-        one_covers(&self.signatures, &mut self.states, state, &words)
+        search_among(&self.signatures, &mut self.states, state, passed)
     }
 
     /// Makes room for the first state alone, where none is kept: most slots have no other one.
@@ -231,15 +268,21 @@ impl<D: Domain> States<D> {
     }
 }
 
-/// Returns whether one of the states that are kept at a slot, where states are, covers a state.
-fn covered<D: Domain>(states: &mut Option<States<D>>, state: &AbsState<D>) -> bool
+/// Searches the states that are kept at a slot, where states are, for one that covers a state. None of the first `passed` does.
+/// Returns what it weighs, too.
+fn search_slot<D: Domain>(
+    states: &mut Option<States<D>>,
+    state: &AbsState<D>,
+    passed: usize,
+) -> (Search, usize)
+    requires { HasPassed D.ops (states_of states.old) passed state.now }
     ensures same { states.new ≡ states.old }
-    ensures value { result ≡ list_any (λ kept. covers D.ops kept state.now) (states_of states.old) }
-    ensures members { result ≡ true → HasCover D.Member (states_of states.old) state.now }
+    ensures found { Finds D.ops D.Member (states_of states.old) passed state.now result.0 }
+    ensures weight { Weighs result.0 (length (states_of states.old)) passed result.1 }
 {
     match states {
-        Some(states) => states.cover(state),
-        None => false,
+        Some(states) => states.search(state, passed),
+        None => (Search::Uncovered, 0),
     }
 }
 
@@ -330,16 +373,18 @@ impl<D: Domain> Kept<D> {
         Ok(())
     }
 
-    /// Returns whether a kept state of its slot covers a state.
-    pub fn covers(&mut self, here: &Pending<D>) -> bool
+    /// Searches the states that are kept at its slot for one that covers a state. None of the first `passed` does. Returns what
+    /// it weighs, too.
+    pub fn search(&mut self, here: &Pending<D>, passed: usize) -> (Search, usize)
+        requires { HasPassed D.ops (kept_at self.old here.now.slot) passed here.now.state }
         ensures same { self.new ≡ self.old }
-        ensures value { result ≡ is_covered D.ops (kept_at self.old) here.now }
-        ensures members { result ≡ true → HasCover D.Member (kept_at self.old here.now.slot) here.now.state }
+        ensures found { Finds D.ops D.Member (kept_at self.old here.now.slot) passed here.now.state result.0 }
+        ensures weight { Weighs result.0 (length (kept_at self.old here.now.slot)) passed result.1 }
     {
         if here.slot < self.by_slot.len() {
-            covered(&mut self.by_slot[here.slot], &here.state)
+            search_slot(&mut self.by_slot[here.slot], &here.state, passed)
         } else {
-            false
+            (Search::Uncovered, 0)
         }
     }
 

@@ -6,6 +6,7 @@ mod layout;
 mod refusal;
 mod slices;
 mod walk;
+mod weights;
 
 pub use basics::steps::Steps;
 pub use kept::Remains;
@@ -13,3 +14,4 @@ pub use layout::distance;
 pub use refusal::Refusal;
 pub use slices::{Progress, Walk, verify_in_slices};
 pub use walk::{Pending, Verified, verify, verify_with};
+pub use weights::law_weights;

@@ -1,20 +1,24 @@
 //! The walk in slices: it goes on by so much work at a time, and ends in the same verdict. A state that a kept one of its slot
 //! covers is skipped.
 
-ghost use Rattle.std.specs.Prelude.{◌≡◌, ◌≤◌, ◌+◌, [], IfOk, OnOk};
+ghost use Rattle.std.specs.Prelude.{◌≡◌, ◌≤◌, ◌+◌, [], true, Err, IfOk, IfErr, IfSome, OnOk};
 ghost use Rattle.insn.specs.Encoding.{slot_count};
 ghost use Rattle.insn.specs.declared.decoding.TheConstants.{MAX_SLOTS};
+ghost use Rattle.verifier.specs.Keeping.{kept_at, is_covered, HasCover};
 ghost use Rattle.verifier.specs.Layout.{IsLaidOut};
 ghost use Rattle.verifier.specs.Refusing.{IsVerdictOver, CountsSteps};
+ghost use Rattle.verifier.specs.Searches.{HasPassed};
 ghost use Rattle.verifier.specs.Walks.{Pauses, EndsWalk};
-ghost use Rattle.verifier.specs.Slices.{waits_of, HasWorked, IfContinues, StopsIn};
-ghost use Rattle.verifier.specs.Units.{IsUnitBetween};
-ghost use Rattle.verifier.specs.declared.walk.Path.TheVariants.{Ended};
+ghost use Rattle.verifier.specs.Slices.{waits_of, passed_at, HasPassedHere, HasSettled, HasDoneUnit, HasDoneSlice, IfContinues, Stops, StopsIn, StopsUnit};
+ghost use Rattle.verifier.specs.Units.{DoesUnit, RefusesUnit, IsUnitBetween};
+ghost use Rattle.verifier.specs.declared.walk.Path.TheVariants.{Continues, Ended};
+ghost use Rattle.verifier.specs.declared.weights.TheConstants.{HEAVIEST};
 
-use crate::kept::{Kept, Remains};
+use crate::kept::{Kept, Remains, Search};
 use crate::layout::check_layout;
 use crate::refusal::Refusal;
 use crate::walk::{Path, Pending, Verified, make_step};
+use crate::weights::UNIT;
 use absstate::AbsState;
 use basics::steps::Steps;
 use insn::Insn;
@@ -33,6 +37,10 @@ pub struct Frontier<D: Domain> {
     here: Box<Pending<D>>,
     pending: Vec<Pending<D>>,
     kept: Kept<D>,
+    /// How many of the states that are kept at the slot of the state at hand are known not to cover it: the first ones.
+    passed: usize,
+    /// What was done beyond the slices so far, by weight.
+    ahead: usize,
     /// The number of steps made.
     made: usize,
 }
@@ -43,12 +51,16 @@ fn resume<D: Domain>(at: &mut Frontier<D>) -> Path
     ensures waits { waits_of at.new ≡ waits_of at.old }
     ensures kept { at.new.kept ≡ at.old.kept }
     ensures made { at.new.made ≡ at.old.made }
+    ensures passed { passed_at at.new ≡ passed_at at.old }
+    ensures ahead { at.new.ahead ≡ at.old.ahead }
+    ensures known { HasPassedHere D.ops at.old → HasPassedHere D.ops at.new }
     ensures path { at.new.path ≡ result }
     ensures none { result ≡ Ended → waits_of at.new ≡ [] }
 {
     if let Path::Continues = at.path {
         return Path::Continues;
     }
+    at.passed = 0;
     match at.pending.pop() {
         None => Path::Ended,
         Some(last) => {
@@ -59,8 +71,47 @@ fn resume<D: Domain>(at: &mut Frontier<D>) -> Path
     }
 }
 
-/// Does one unit of work: skips the state to follow next, where a kept one of its slot covers it, or else makes its step.
-/// Returns `Ended` where no state waits.
+/// Skips the state at hand, where a kept one of its slot covers it, or else makes its step.
+///
+/// # Errors
+/// V17 where the step would pass the budget; else the refusal of the step.
+fn settle<D: Domain, L: Ledger>(
+    program: &Program,
+    at: &mut Frontier<D>,
+    budget: usize,
+    steps: &mut Steps<L>,
+    covered: bool,
+) -> Result<(), Refusal>
+    requires few { slot_count program.now ≤ MAX_SLOTS }
+    requires laid_out { IsLaidOut program.now }
+    requires within { at.old.made ≤ budget }
+    requires pauses { Pauses D.ops D.Member program.now at.old.made (waits_of at.old) at.old.kept }
+    requires waits { at.old.path ≡ Continues }
+    requires covered { covered ≡ is_covered D.ops (kept_at at.old.kept) at.old.here.value }
+    requires members { covered ≡ true → HasCover D.Member (kept_at at.old.kept at.old.here.value.slot) at.old.here.value.state }
+    ensures settled { OnOk result (HasSettled D.ops D.Member program.now budget at.old at.new steps.old steps.new) }
+    ensures ended { IfErr result (λ e. Stops {T = Unit {0}} D.ops D.Member program.now budget at.old.made 1 steps.old steps.new (Err e)) }
+    ensures unit { OnOk result (DoesUnit D.ops program.now (waits_of at.old) (waits_of at.new) at.old.made at.new.made) }
+    ensures refused { IfErr result (RefusesUnit D.ops program.now (waits_of at.old)) }
+    ensures ahead { OnOk result (at.new.ahead ≡ at.old.ahead) }
+{
+    at.passed = 0;
+    if covered {
+        at.path = Path::Ended;
+        return Ok(());
+    }
+    if at.made == budget {
+        return Err(Refusal::Budget { slot: at.here.slot });
+    }
+    steps.tick();
+    at.made += 1;
+    at.path = make_step(program, &mut at.kept, &mut at.here, &mut at.pending)?;
+    Ok(())
+}
+
+/// Does one unit of work: searches the states that are kept at the slot of the state to follow next for one that covers it,
+/// and skips that state, or makes its step, where the search comes to its end. Returns what the unit weighs, `None` where no
+/// state waits.
 ///
 /// # Errors
 /// V17 where the step would pass the budget; else the refusal of the step.
@@ -69,32 +120,29 @@ fn work<D: Domain, L: Ledger>(
     at: &mut Frontier<D>,
     budget: usize,
     steps: &mut Steps<L>,
-) -> Result<Path, Refusal>
+) -> Result<Option<usize>, Refusal>
     requires few { slot_count program.now ≤ MAX_SLOTS }
     requires laid_out { IsLaidOut program.now }
     requires within { at.old.made ≤ budget }
     requires pauses { Pauses D.ops D.Member program.now at.old.made (waits_of at.old) at.old.kept }
-    ensures on { IfOk result (IfContinues (HasWorked D.ops D.Member program.now budget at.old at.new 1 steps.old steps.new)) }
-    ensures ended { StopsIn D.ops D.Member program.now budget at.old.made 1 steps.old steps.new result }
-    ensures unit { IsUnitBetween D.ops program.now at.old at.new result }
+    requires passed { HasPassedHere D.ops at.old }
+    ensures on { IfOk result (λ done. IfSome done (HasDoneUnit D.ops D.Member program.now budget at.old at.new steps.old steps.new)) }
+    ensures ended { StopsUnit D.ops D.Member program.now budget at.old.made steps.old steps.new result }
 {
     if let Path::Ended = resume(at) {
-        return Ok(Path::Ended);
+        return Ok(None);
     }
-    if at.kept.covers(&at.here) {
-        at.path = Path::Ended;
-        return Ok(Path::Continues);
+    let (found, weight) = at.kept.search(&at.here, at.passed);
+    match found {
+        Search::Covered => settle(program, at, budget, steps, true)?,
+        Search::Uncovered => settle(program, at, budget, steps, false)?,
+        Search::Open { passed } => at.passed = passed,
     }
-    if at.made == budget {
-        return Err(Refusal::Budget { slot: at.here.slot });
-    }
-    steps.tick();
-    at.made += 1;
-    at.path = make_step(program, &mut at.kept, &mut at.here, &mut at.pending)?;
-    Ok(Path::Continues)
+    Ok(Some(UNIT + weight))
 }
 
-/// Does `slice` units of work, or fewer where the walk ends.
+/// Does work of the weight `slice`, with what was done beyond the slices before, or less where the walk ends. What a unit does
+/// beyond it is part of the next slice.
 ///
 /// # Errors
 /// The first refusal that is met.
@@ -109,15 +157,70 @@ fn work_on<D: Domain, L: Ledger>(
     requires laid_out { IsLaidOut program.now }
     requires within { at.old.made ≤ budget }
     requires pauses { Pauses D.ops D.Member program.now at.old.made (waits_of at.old) at.old.kept }
-    ensures on { IfOk result (IfContinues (HasWorked D.ops D.Member program.now budget at.old at.new slice steps.old steps.new)) }
+    requires passed { HasPassedHere D.ops at.old }
+    requires light { at.old.ahead ≤ HEAVIEST }
+    ensures on { IfOk result (IfContinues (HasDoneSlice D.ops D.Member program.now budget at.old at.new slice steps.old steps.new)) }
     ensures ended { StopsIn D.ops D.Member program.now budget at.old.made slice steps.old steps.new result }
 {
-    for _ in 0..slice {
-        match work(program, at, budget, steps)? {
-            Path::Continues => {}
-            Path::Ended => return Ok(Path::Ended),
+    let mut left = slice.saturating_sub(at.ahead);
+    at.ahead = at.ahead.saturating_sub(slice);
+    while left > 0 {
+        let Some(weight) = work(program, at, budget, steps)? else {
+            return Ok(Path::Ended);
+        };
+        at.ahead = weight.saturating_sub(left);
+        left = left.saturating_sub(weight);
+    }
+    Ok(Path::Continues)
+}
+
+/// Searches all states that are kept at the slot of the state at hand, and returns whether one covers it.
+fn is_covered<D: Domain>(at: &mut Frontier<D>) -> bool
+    requires passed { HasPassed D.ops (kept_at at.old.kept at.old.here.value.slot) at.old.passed at.old.here.value.state }
+    ensures path { at.new.path ≡ at.old.path }
+    ensures here { at.new.here ≡ at.old.here }
+    ensures pending { at.new.pending ≡ at.old.pending }
+    ensures kept { at.new.kept ≡ at.old.kept }
+    ensures made { at.new.made ≡ at.old.made }
+    ensures ahead { at.new.ahead ≡ at.old.ahead }
+    ensures value { result ≡ is_covered D.ops (kept_at at.old.kept) at.old.here.value }
+    ensures members { result ≡ true → HasCover D.Member (kept_at at.old.kept at.old.here.value.slot) at.old.here.value.state }
+{
+    loop {
+        match at.kept.search(&at.here, at.passed).0 {
+            Search::Covered => return true,
+            Search::Uncovered => return false,
+            Search::Open { passed } => at.passed = passed,
         }
     }
+}
+
+/// Skips the state to follow next, where a kept one of its slot covers it, or else makes its step, whatever that weighs.
+/// Returns `Ended` where no state waits.
+///
+/// # Errors
+/// V17 where the step would pass the budget; else the refusal of the step.
+fn step_on<D: Domain, L: Ledger>(
+    program: &Program,
+    at: &mut Frontier<D>,
+    budget: usize,
+    steps: &mut Steps<L>,
+) -> Result<Path, Refusal>
+    requires few { slot_count program.now ≤ MAX_SLOTS }
+    requires laid_out { IsLaidOut program.now }
+    requires within { at.old.made ≤ budget }
+    requires pauses { Pauses D.ops D.Member program.now at.old.made (waits_of at.old) at.old.kept }
+    requires passed { HasPassedHere D.ops at.old }
+    ensures on { IfOk result (IfContinues (HasSettled D.ops D.Member program.now budget at.old at.new steps.old steps.new)) }
+    ensures ahead { OnOk result (at.new.ahead ≡ at.old.ahead) }
+    ensures ended { StopsIn D.ops D.Member program.now budget at.old.made 1 steps.old steps.new result }
+    ensures unit { IsUnitBetween D.ops program.now at.old at.new result }
+{
+    if let Path::Ended = resume(at) {
+        return Ok(Path::Ended);
+    }
+    let covered = is_covered(at);
+    settle(program, at, budget, steps, covered)?;
     Ok(Path::Continues)
 }
 
@@ -131,19 +234,13 @@ pub struct Walk<D: Domain> {
 }
 
 impl<D: Domain> Model for Walk<D> {
-    ghost use Rattle.verifier.specs.Slices.{Walking, IsWalk, waits_of};
+    ghost use Rattle.verifier.specs.Slices.{Walking, IsWalk, walking_at, HasPassedHere};
 
     ghost Value = { Walking D };
 
-    ghost view = { λ w. record { code = w.translation; budget = w.budget; made = w.at.made; waits = waits_of w.at; kept = w.at.kept } };
+    ghost view = { λ w. walking_at w.translation w.budget w.at };
 
-    ghost invariant = { λ w. IsWalk D.ops D.Member (record {
-      code = w.translation;
-      budget = w.budget;
-      made = w.at.made;
-      waits = waits_of w.at;
-      kept = w.at.kept;
-    }) };
+    ghost invariant = { λ w. IsWalk D.ops D.Member (walking_at w.translation w.budget w.at) × HasPassedHere D.ops w.at };
 }
 
 /// What a walk has come to after a slice.
@@ -206,6 +303,8 @@ impl<D: Domain> Walk<D> {
                 here,
                 pending,
                 kept,
+                passed: 0,
+                ahead: 0,
                 made: 0,
             },
         })
@@ -247,8 +346,7 @@ impl<D: Domain> Walk<D> {
         self.at.made
     }
 
-    /// Goes on by one unit of work: skips the state to follow next, where a kept one of its slot covers it, or else makes its
-    /// step.
+    /// Skips the state to follow next, where a kept one of its slot covers it, or else makes its step, whatever that weighs.
     pub fn step<L: Ledger>(self, steps: &mut Steps<L>) -> Progress<D>
         ensures slice { IsSlice D.ops D.Member self 1 steps.old steps.new result }
         ensures unit { IsUnit D.ops self result }
@@ -258,7 +356,7 @@ impl<D: Domain> Walk<D> {
             budget,
             mut at,
         } = self;
-        match work(translation.program(), &mut at, budget, steps) {
+        match step_on(translation.program(), &mut at, budget, steps) {
             Err(refusal) => Progress::Ended(Err(refusal), Remains::new(at.kept)),
             Ok(Path::Ended) => Progress::Ended(Ok(Verified { translation }), Remains::new(at.kept)),
             Ok(Path::Continues) => Progress::Going(Walk {
@@ -269,8 +367,8 @@ impl<D: Domain> Walk<D> {
         }
     }
 
-    /// Goes on by `slice` units of work, or fewer where the walk ends. A unit is a step, or a state that is skipped, and compares
-    /// at most one state with those that are kept at its slot.
+    /// Goes on by work of the weight `slice`, or less where the walk ends. Of what the last unit of work does beyond it, so much
+    /// less is done by the next slices. No unit weighs more than 10,240, whatever the program is.
     pub fn advance<L: Ledger>(self, slice: usize, steps: &mut Steps<L>) -> Progress<D>
         ensures { IsSlice D.ops D.Member self slice steps.old steps.new result }
     {
@@ -291,7 +389,7 @@ impl<D: Domain> Walk<D> {
     }
 }
 
-/// As [`verify_with`](crate::verify_with), by slices of `slice` units of work.
+/// As [`verify_with`](crate::verify_with), by slices of the weight `slice`.
 ///
 /// # Errors
 /// As [`verify_with`](crate::verify_with).

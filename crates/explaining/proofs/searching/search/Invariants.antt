@@ -12,4 +12,4 @@ invariant-units g l = record {
 }
 
 abbrev pub decreases-units : goal.decreases-units
-decreases-units g l = work_left l.walk.budget l.walk.made l.walk.waits
+decreases-units g l = work_left l.walk

@@ -10,4 +10,4 @@ invariant-loop-next g l = record {
 }
 
 abbrev pub decreases-loop-next : goal.decreases-loop-next
-decreases-loop-next g l = work_left l.walk.budget l.walk.made l.walk.waits
+decreases-loop-next g l = work_left l.walk

@@ -1,101 +1,81 @@
-use Rattle.std.proofs.Common.{◌≡◌, inl, inr, refl, sym, ap, ◌∙◌, subst, arith}
-use Rattle.std.proofs.lemmas.Result.{err_from_is_err_and}
+use Rattle.std.proofs.Common.{ℕ, ◌+◌, length, sym, ap, ◌∙◌, subst}
 use denote.Memory.{lone}
 use Rattle.verifier.specs.Keeping.{kept_at, is_covered}
-use Rattle.verifier.specs.Walk.{state_to_follow, IsCovered}
+use Rattle.verifier.specs.Searches.{HasPassed, Finds, Weighs, passed_after}
+use Rattle.verifier.specs.Slices.{passed_of, passed_at, HasDoneUnit}
 use Rattle.verifier.specs.declared.kept.Kept.{Kept}
+use Rattle.verifier.specs.declared.kept.Search.{Search}
+use Rattle.verifier.specs.declared.kept.Search.TheVariants.{Covered, Uncovered}
+use Rattle.verifier.specs.declared.slices.Frontier.{Frontier}
+use Rattle.verifier.specs.declared.walk.Path.{Path}
 use Rattle.verifier.specs.declared.walk.Pending.{Pending}
+use Rattle.verifier.specs.declared.weights.TheConstants.{UNIT}
 use Rattle.verifier.proofs.Sizes.{pending_fits}
-use Rattle.verifier.proofs.Slicing.{skips_it, steps_on, refuses_it, unit_ends, unit_skips, unit_passes, unit_refused, unit_steps, walks_here, begins_inside}
+use Rattle.verifier.proofs.Slicing.{IsResumed, unit_ends, settles_unit, opens_unit}
 use Rattle.verifier.proofs.slices.work.Goals as goal
+use Rattle.verifier.proofs.slices.work.Goals.{in-Covered+in_ok-settle-in-Covered, in-Uncovered+in_ok-settle-in-Uncovered, in-Open}
 
 pub returns-in-Ended-clause-ended : goal.returns-in-Ended-clause-ended
 returns-in-Ended-clause-ended g c =
-    unit_ends g.D.Domain.ops g.D.Domain.Member c.args.program.now c.args.budget c.args.at.now c.resume.new.at c.args.steps.now
-    (record { pauses = c.requires.pauses; within = c.requires.within; waits = c.resume.ensures.waits; kept = c.resume.ensures.kept; made = c.resume.ensures.made })
-    (c.resume.ensures.none c.in-Ended.is)
+    unit_ends g.D.Domain.ops g.D.Domain.Member c.args.program.now c.args.budget c.args.at.now c.requires.pauses c.requires.within c.args.steps.now (sym c.resume.ensures.waits ∙ c.resume.ensures.none c.in-Ended.is)
 
-pub covers-requires : goal.covers-requires
-covers-requires g c = pending_fits (lone g.row.D.mir) g.met.D.Domain.small
-
-pub returns-then-covers-clause-on : goal.returns-then-covers-clause-on
-returns-then-covers-clause-on g c =
-    unit_skips g.D.Domain.ops g.D.Domain.Member c.args.program.now c.args.budget c.args.at.now (record c.resume.new.at { kept = c.covers.new.self }) c.deref.result.now
-    (record { pauses = c.requires.pauses; within = c.requires.within; waits = c.resume.ensures.waits; kept = c.covers.ensures.same ∙ c.resume.ensures.kept; made = c.resume.ensures.made })
-    (c.resume.ensures.path ∙ c.in_default.is) c.deref.ensures c.args.steps.now (subst (λ (k : Kept g.row.D.Denot). IsCovered g.D.Domain.ops g.D.Domain.Member (kept_at k) c.deref.result.now) (sym c.covers.ensures.same) (sym c.covers.ensures.value ∙ c.if-covers.true, c.covers.ensures.members c.if-covers.true))
-
-pub returns-then-at-budget-clause-ended : goal.returns-then-at-budget-clause-ended
-returns-then-at-budget-clause-ended g c =
-    let here : c.deref-then-at-budget.result.now ≡ c.deref.result.now = c.deref-then-at-budget.ensures ∙ sym c.deref.ensures in
-    unit_passes g.D.Domain.ops g.D.Domain.Member c.args.program.now c.args.budget c.args.at.now (record c.resume.new.at { kept = c.covers.new.self }) c.deref-then-at-budget.result.now
-    (record { pauses = c.requires.pauses; within = c.requires.within; waits = c.resume.ensures.waits; kept = c.covers.ensures.same ∙ c.resume.ensures.kept; made = c.resume.ensures.made })
-    (c.resume.ensures.path ∙ c.in_default.is) c.deref-then-at-budget.ensures
-    (ap (λ (p : Pending g.row.D.Denot). is_covered g.D.Domain.ops (kept_at c.covers.new.self) p) here
-    ∙ ap (λ (k : Kept g.row.D.Denot). is_covered g.D.Domain.ops (kept_at k) c.deref.result.now) c.covers.ensures.same ∙ sym c.covers.ensures.value ∙ c.if-covers.false) c.args.steps.now (omega (arith, c.if-at-budget.true))
-
-pub make_step-requires : goal.make_step-requires
-make_step-requires g c =
-    let here : c.deref_mut.result.now ≡ c.deref.result.now = c.deref_mut.ensures.value ∙ sym c.deref.ensures in
-    let walks =
-    walks_here g.D.Domain.ops g.D.Domain.Member c.args.program.now c.args.budget c.args.at.now (record c.resume.new.at { kept = c.covers.new.self }) c.deref_mut.result.now
-    (record { pauses = c.requires.pauses; within = c.requires.within; waits = c.resume.ensures.waits; kept = c.covers.ensures.same ∙ c.resume.ensures.kept; made = c.resume.ensures.made })
-    (c.resume.ensures.path ∙ c.in_default.is) c.deref_mut.ensures.value
-    (ap (λ (p : Pending g.row.D.Denot). is_covered g.D.Domain.ops (kept_at c.covers.new.self) p) here
-    ∙ ap (λ (k : Kept g.row.D.Denot). is_covered g.D.Domain.ops (kept_at k) c.deref.result.now) c.covers.ensures.same ∙ sym c.covers.ensures.value ∙ c.if-covers.false) in (
+pub search-found-requires : goal.search-found-requires
+search-found-requires g c =
+    let here : HasPassed g.D.Domain.ops (kept_at c.resume.new.at.kept c.resume.new.at.here.value.slot) c.resume.new.at.passed c.resume.new.at.here.value.state =
+    subst (λ (path : Path). HasPassed g.D.Domain.ops (kept_at c.resume.new.at.kept c.resume.new.at.here.value.slot) (passed_of path c.resume.new.at.passed) c.resume.new.at.here.value.state) (c.resume.ensures.path ∙ c.in_default.is) (c.resume.ensures.known c.requires.passed) in (
       pending_fits (lone g.row.D.mir) g.met.D.Domain.small,
-      (c.requires.few, (c.requires.laid_out, begins_inside g.D.Domain.ops g.D.Domain.Member g.met.D.Domain.laws c.args.program.now c.requires.laid_out c.resume.new.at.made c.resume.new.at.pending.items c.deref_mut.result.now c.covers.new.self walks)),
+      subst (λ (p : Pending g.row.D.Denot). HasPassed g.D.Domain.ops (kept_at c.resume.new.at.kept p.slot) c.resume.new.at.passed p.state) (sym c.deref.ensures) here,
     )
 
-pub returns-in_err-at-clause-ended : goal.returns-in_err-at-clause-ended
-returns-in_err-at-clause-ended g c =
-    let p = err_from_is_err_and c.from_residual.result c.from_residual.ensures.1 in
-    let here : c.deref_mut.result.now ≡ c.deref.result.now = c.deref_mut.ensures.value ∙ sym c.deref.ensures in
-    rw (p.1, p.2) (
-    unit_refused g.D.Domain.ops g.D.Domain.Member c.args.program.now c.args.budget c.args.at.now (record c.resume.new.at { kept = c.covers.new.self }) c.deref_mut.result.now
-    (record { pauses = c.requires.pauses; within = c.requires.within; waits = c.resume.ensures.waits; kept = c.covers.ensures.same ∙ c.resume.ensures.kept; made = c.resume.ensures.made })
-    (c.resume.ensures.path ∙ c.in_default.is) c.deref_mut.ensures.value
-    (ap (λ (p : Pending g.row.D.Denot). is_covered g.D.Domain.ops (kept_at c.covers.new.self) p) here
-    ∙ ap (λ (k : Kept g.row.D.Denot). is_covered g.D.Domain.ops (kept_at k) c.deref.result.now) c.covers.ensures.same ∙ sym c.covers.ensures.value ∙ c.if-covers.false)
-    c.args.steps.now c.tick.new.self c.in_err-at.field-0.0 (omega (arith, c.tick.ensures)) (omega (arith, c.if-at-budget.false, c.requires.within, c.resume.ensures.made)) c.in_err-at.ensures.refused
-    )
+pub settle-requires-clause-covered : goal.settle-requires-clause-covered
+settle-requires-clause-covered g c =
+    let found : Finds g.D.Domain.ops g.D.Domain.Member (kept_at c.resume.new.at.kept c.deref.result.now.slot) c.resume.new.at.passed c.deref.result.now.state Covered =
+    subst (Finds g.D.Domain.ops g.D.Domain.Member (kept_at c.resume.new.at.kept c.deref.result.now.slot) c.resume.new.at.passed c.deref.result.now.state) c.in-Covered.is c.search-found.ensures.found in
+    sym (ap (λ (k : Kept g.row.D.Denot). is_covered g.D.Domain.ops (kept_at k) c.resume.new.at.here.value) c.search-found.ensures.same
+    ∙ ap (λ (p : Pending g.row.D.Denot). is_covered g.D.Domain.ops (kept_at c.resume.new.at.kept) p) (sym c.deref.ensures) ∙ found.0)
+
+pub settle-requires-in-Uncovered-clause-covered : goal.settle-requires-in-Uncovered-clause-covered
+settle-requires-in-Uncovered-clause-covered g c =
+    let found : Finds g.D.Domain.ops g.D.Domain.Member (kept_at c.resume.new.at.kept c.deref.result.now.slot) c.resume.new.at.passed c.deref.result.now.state Uncovered =
+    subst (Finds g.D.Domain.ops g.D.Domain.Member (kept_at c.resume.new.at.kept c.deref.result.now.slot) c.resume.new.at.passed c.deref.result.now.state) c.in-Uncovered.is c.search-found.ensures.found in
+    sym (ap (λ (k : Kept g.row.D.Denot). is_covered g.D.Domain.ops (kept_at k) c.resume.new.at.here.value) c.search-found.ensures.same
+    ∙ ap (λ (p : Pending g.row.D.Denot). is_covered g.D.Domain.ops (kept_at c.resume.new.at.kept) p) (sym c.deref.ensures) ∙ found)
 
 pub returns-clause-on : goal.returns-clause-on
 returns-clause-on g c =
-    let here : c.deref_mut.result.now ≡ c.deref.result.now = c.deref_mut.ensures.value ∙ sym c.deref.ensures in
-    unit_steps g.D.Domain.ops g.D.Domain.Member c.args.program.now c.args.budget c.args.at.now (record c.resume.new.at { kept = c.covers.new.self }) c.deref_mut.result.now
-    (record { pauses = c.requires.pauses; within = c.requires.within; waits = c.resume.ensures.waits; kept = c.covers.ensures.same ∙ c.resume.ensures.kept; made = c.resume.ensures.made })
-    (c.resume.ensures.path ∙ c.in_default.is) c.deref_mut.ensures.value
-    (ap (λ (p : Pending g.row.D.Denot). is_covered g.D.Domain.ops (kept_at c.covers.new.self) p) here
-    ∙ ap (λ (k : Kept g.row.D.Denot). is_covered g.D.Domain.ops (kept_at k) c.deref.result.now) c.covers.ensures.same ∙ sym c.covers.ensures.value ∙ c.if-covers.false)
-    _ (state_to_follow c.in_ok-at.field-0 c.make_step.new.here) c.args.steps.now c.tick.new.self (omega (arith, c.tick.ensures)) (omega (arith, c.if-at-budget.false, c.requires.within, c.resume.ensures.made)) refl c.in_ok-at.ensures.kept c.in_ok-at.ensures.made refl
-
-pub returns-in-Ended-clause-unit : goal.returns-in-Ended-clause-unit
-returns-in-Ended-clause-unit g c = sym c.resume.ensures.waits ∙ c.resume.ensures.none c.in-Ended.is
-
-pub returns-then-covers-clause-unit : goal.returns-then-covers-clause-unit
-returns-then-covers-clause-unit g c =
-    skips_it g.D.Domain.ops g.D.Domain.Member c.args.program.now c.args.budget c.args.at.now (record c.resume.new.at { kept = c.covers.new.self }) c.deref.result.now
-    (record { pauses = c.requires.pauses; within = c.requires.within; waits = c.resume.ensures.waits; kept = c.covers.ensures.same ∙ c.resume.ensures.kept; made = c.resume.ensures.made })
-    (c.resume.ensures.path ∙ c.in_default.is) c.deref.ensures
-
-pub returns-then-at-budget-clause-unit : goal.returns-then-at-budget-clause-unit
-returns-then-at-budget-clause-unit g c =
-    refuses_it g.D.Domain.ops g.D.Domain.Member c.args.program.now c.args.budget c.args.at.now (record c.resume.new.at { kept = c.covers.new.self }) c.deref-then-at-budget.result.now
-    (record { pauses = c.requires.pauses; within = c.requires.within; waits = c.resume.ensures.waits; kept = c.covers.ensures.same ∙ c.resume.ensures.kept; made = c.resume.ensures.made })
-    (c.resume.ensures.path ∙ c.in_default.is) c.deref-then-at-budget.ensures _ (inr refl)
-
-pub returns-in_err-at-clause-unit : goal.returns-in_err-at-clause-unit
-returns-in_err-at-clause-unit g c =
-    let p = err_from_is_err_and c.from_residual.result c.from_residual.ensures.1 in
-    rw (p.1, p.2) (
-    refuses_it g.D.Domain.ops g.D.Domain.Member c.args.program.now c.args.budget c.args.at.now (record c.resume.new.at { kept = c.covers.new.self }) c.deref_mut.result.now
-    (record { pauses = c.requires.pauses; within = c.requires.within; waits = c.resume.ensures.waits; kept = c.covers.ensures.same ∙ c.resume.ensures.kept; made = c.resume.ensures.made })
-    (c.resume.ensures.path ∙ c.in_default.is) c.deref_mut.ensures.value c.in_err-at.field-0.0 (inl c.in_err-at.ensures.refused)
-    )
-
-pub returns-clause-unit : goal.returns-clause-unit
-returns-clause-unit g c =
-    steps_on g.D.Domain.ops g.D.Domain.Member c.args.program.now c.args.budget c.args.at.now (record c.resume.new.at { kept = c.covers.new.self }) c.deref_mut.result.now
-    (record { pauses = c.requires.pauses; within = c.requires.within; waits = c.resume.ensures.waits; kept = c.covers.ensures.same ∙ c.resume.ensures.kept; made = c.resume.ensures.made })
-    (c.resume.ensures.path ∙ c.in_default.is) c.deref_mut.ensures.value
-    _ c.make_step.new.pending.items _ (state_to_follow c.in_ok-at.field-0 c.make_step.new.here) refl c.in_ok-at.ensures.made refl
+    let at : Frontier g.row.D.Denot = record c.resume.new.at { kept = c.search-found.new.self } in
+    let is : IsResumed g.D.Domain.ops g.D.Domain.Member c.args.program.now c.args.budget c.args.at.now at = record {
+      pauses = c.requires.pauses;
+      within = c.requires.within;
+      on = c.resume.ensures.path ∙ c.in_default.is;
+      waits = c.resume.ensures.waits;
+      kept = c.search-found.ensures.same ∙ c.resume.ensures.kept;
+      made = c.resume.ensures.made;
+      passed = c.resume.ensures.passed;
+      ahead = c.resume.ensures.ahead;
+      has_passed = subst (λ (k : Kept g.row.D.Denot). HasPassed g.D.Domain.ops (kept_at k c.resume.new.at.here.value.slot) (passed_at c.resume.new.at) c.resume.new.at.here.value.state) (sym c.search-found.ensures.same) (c.resume.ensures.known c.requires.passed);
+    } in
+    let weighs : Weighs c.search-found.result.0 (length (kept_at c.search-found.new.self c.resume.new.at.here.value.slot)) c.resume.new.at.passed c.search-found.result.1 =
+    subst (λ (k : Kept g.row.D.Denot). Weighs c.search-found.result.0 (length (kept_at k c.resume.new.at.here.value.slot)) c.resume.new.at.passed c.search-found.result.1) (sym c.search-found.ensures.same)
+    (subst (λ (p : Pending g.row.D.Denot). Weighs c.search-found.result.0 (length (kept_at c.resume.new.at.kept p.slot)) c.resume.new.at.passed c.search-found.result.1) c.deref.ensures c.search-found.ensures.weight) in
+    let finds : Finds g.D.Domain.ops g.D.Domain.Member (kept_at c.search-found.new.self c.resume.new.at.here.value.slot) c.resume.new.at.passed c.resume.new.at.here.value.state c.search-found.result.0 =
+    subst (λ (k : Kept g.row.D.Denot). Finds g.D.Domain.ops g.D.Domain.Member (kept_at k c.resume.new.at.here.value.slot) c.resume.new.at.passed c.resume.new.at.here.value.state c.search-found.result.0) (sym c.search-found.ensures.same)
+    (subst (λ (p : Pending g.row.D.Denot). Finds g.D.Domain.ops g.D.Domain.Member (kept_at c.resume.new.at.kept p.slot) c.resume.new.at.passed p.state c.search-found.result.0) c.deref.ensures c.search-found.ensures.found) in
+    elim c.match-found.branch [
+      | in-Covered+in_ok-settle-in-Covered w ↦
+          subst (λ (to : Frontier g.row.D.Denot). HasDoneUnit g.D.Domain.ops g.D.Domain.Member c.args.program.now c.args.budget c.args.at.now to c.args.steps.now c.match-found.steps (UNIT + c.search-found.result.1)) (sym w.at-is)
+          (subst (λ (n : ℕ). HasDoneUnit g.D.Domain.ops g.D.Domain.Member c.args.program.now c.args.budget c.args.at.now w.settle.new.at c.args.steps.now n (UNIT + c.search-found.result.1)) (sym w.steps-is)
+          (settles_unit g.D.Domain.ops g.D.Domain.Member c.args.program.now c.args.budget c.args.at.now at is w.settle.new.at c.args.steps.now w.settle.new.steps c.search-found.result.1 c.search-found.result.0 w.in_ok-settle-in-Covered.ensures.settled w.in_ok-settle-in-Covered.ensures.ahead weighs
+          (ap (λ (found : Search). passed_after found (length (kept_at c.search-found.new.self c.resume.new.at.here.value.slot))) w.in-Covered.is)))
+      | in-Uncovered+in_ok-settle-in-Uncovered w ↦
+          subst (λ (to : Frontier g.row.D.Denot). HasDoneUnit g.D.Domain.ops g.D.Domain.Member c.args.program.now c.args.budget c.args.at.now to c.args.steps.now c.match-found.steps (UNIT + c.search-found.result.1)) (sym w.at-is)
+          (subst (λ (n : ℕ). HasDoneUnit g.D.Domain.ops g.D.Domain.Member c.args.program.now c.args.budget c.args.at.now w.settle-in-Uncovered.new.at c.args.steps.now n (UNIT + c.search-found.result.1)) (sym w.steps-is)
+          (settles_unit g.D.Domain.ops g.D.Domain.Member c.args.program.now c.args.budget c.args.at.now at is w.settle-in-Uncovered.new.at c.args.steps.now w.settle-in-Uncovered.new.steps c.search-found.result.1 c.search-found.result.0 w.in_ok-settle-in-Uncovered.ensures.settled w.in_ok-settle-in-Uncovered.ensures.ahead weighs
+          (ap (λ (found : Search). passed_after found (length (kept_at c.search-found.new.self c.resume.new.at.here.value.slot))) w.in-Uncovered.is)))
+      | in-Open w ↦
+          subst (λ (to : Frontier g.row.D.Denot). HasDoneUnit g.D.Domain.ops g.D.Domain.Member c.args.program.now c.args.budget c.args.at.now to c.args.steps.now c.match-found.steps (UNIT + c.search-found.result.1)) (sym w.at-is)
+          (subst (λ (n : ℕ). HasDoneUnit g.D.Domain.ops g.D.Domain.Member c.args.program.now c.args.budget c.args.at.now (record at { passed = w.in-Open.passed }) c.args.steps.now n (UNIT + c.search-found.result.1)) (sym w.steps-is)
+          (opens_unit g.D.Domain.ops g.D.Domain.Member c.args.program.now c.args.budget c.args.at.now at is c.args.steps.now c.search-found.result.1 w.in-Open.passed
+          (subst (Finds g.D.Domain.ops g.D.Domain.Member (kept_at c.search-found.new.self c.resume.new.at.here.value.slot) c.resume.new.at.passed c.resume.new.at.here.value.state) w.in-Open.is finds)
+          (subst (λ (found : Search). Weighs found (length (kept_at c.search-found.new.self c.resume.new.at.here.value.slot)) c.resume.new.at.passed c.search-found.result.1) w.in-Open.is weighs)))
+    ]

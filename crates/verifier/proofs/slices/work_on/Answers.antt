@@ -1,40 +1,39 @@
-use Rattle.std.proofs.Common.{◌≡◌, ℕ, Ok, Err, subst, arith}
-use Rattle.std.proofs.lemmas.Result.{err_from_is_err_and}
-use Rattle.verifier.specs.Slices.{HasWorked, IfContinues, StopsIn}
-use Rattle.verifier.specs.declared.walk.Path.{Path}
-use Rattle.verifier.specs.declared.walk.Path.TheVariants.{Continues, Ended}
-use Rattle.verifier.proofs.Slicing.{none_worked, one_worked, stops_after}
+use Rattle.std.proofs.Common.{ℕ, ◌+◌, Option, refl, subst, arith}
+use Rattle.std.specs.Prelude.{IfSome}
+use Rattle.verifier.specs.Slices.{HasDoneUnit}
+use Rattle.verifier.proofs.Slicing.{none_worked, one_worked, worked_from}
 use Rattle.verifier.proofs.slices.work_on.Goals as goal
 
-pub loop-init : goal.loop-init
-loop-init g c = none_worked g.D.Domain.ops g.D.Domain.Member c.args.program.now c.args.budget c.args.at.now c.args.steps.now c.requires.pauses c.requires.within
+pub loop-left-init : goal.loop-left-init
+loop-left-init g c = record {
+  weight = 0;
+  worked = none_worked g.D.Domain.ops g.D.Domain.Member c.args.program.now c.args.budget _ _ c.args.steps.now refl refl refl c.requires.pauses c.requires.passed c.requires.within;
+  sum = omega arith;
+  few = omega arith;
+  light = omega (arith, c.saturating_sub-at.ensures, c.requires.light);
+  none = λ some. omega (arith, c.saturating_sub-at.ensures, c.saturating_sub-left.ensures, some);
+}
 
-pub work-requires-clause-within : goal.work-requires-clause-within
-work-requires-clause-within g c = c.loop.invariant.within
-
-pub work-requires-clause-pauses : goal.work-requires-clause-pauses
-work-requires-clause-pauses g c = c.loop.invariant.pauses
-
-pub returns-in_err-work-clause-ended : goal.returns-in_err-work-clause-ended
-returns-in_err-work-clause-ended g c =
-    let p = err_from_is_err_and c.from_residual.result c.from_residual.ensures.1 in
-    rw (p.1, p.2) (
-    stops_after g.D.Domain.ops g.D.Domain.Member c.args.program.now c.args.budget c.args.at.now c.loop.at c.loop.counter c.args.slice c.args.steps.now c.loop.steps c.work.new.steps (Err c.in_err-work.field-0.0) (omega (arith, c.loop-test.true)) c.loop.invariant c.in_err-work.ensures.ended
-    )
-
-pub returns-in-Ended-clause-ended : goal.returns-in-Ended-clause-ended
-returns-in-Ended-clause-ended g c =
-    let ended : StopsIn g.D.Domain.ops g.D.Domain.Member c.args.program.now c.args.budget c.loop.at.made 1 c.loop.steps c.work.new.steps (Ok Ended) =
-    subst (λ (p : Path). StopsIn g.D.Domain.ops g.D.Domain.Member c.args.program.now c.args.budget c.loop.at.made 1 c.loop.steps c.work.new.steps (Ok p)) c.in-Ended.is c.in_ok-work.ensures.ended in
-    stops_after g.D.Domain.ops g.D.Domain.Member c.args.program.now c.args.budget c.args.at.now c.loop.at c.loop.counter c.args.slice c.args.steps.now c.loop.steps c.work.new.steps (Ok tt) (omega (arith, c.loop-test.true)) c.loop.invariant ended
-
-pub loop-preserved : goal.loop-preserved
-loop-preserved g c =
-    let on : IfContinues (HasWorked g.D.Domain.ops g.D.Domain.Member c.args.program.now c.args.budget c.loop.at c.work.new.at 1 c.loop.steps c.work.new.steps) Continues =
-    subst (IfContinues (HasWorked g.D.Domain.ops g.D.Domain.Member c.args.program.now c.args.budget c.loop.at c.work.new.at 1 c.loop.steps c.work.new.steps)) c.in-Continues.is c.in_ok-work.ensures.on in
-    one_worked g.D.Domain.ops g.D.Domain.Member c.args.program.now c.args.budget c.args.at.now c.loop.at c.work.new.at c.loop.counter c.args.steps.now c.loop.steps c.work.new.steps c.loop.invariant on
+pub loop-left-preserved : goal.loop-left-preserved
+loop-left-preserved g c =
+    let unit : HasDoneUnit g.D.Domain.ops g.D.Domain.Member c.args.program.now c.args.budget c.loop-left.at c.work.new.at c.loop-left.steps c.work.new.steps c.in-Some.weight =
+    subst (λ (done : Option ℕ). IfSome done (HasDoneUnit g.D.Domain.ops g.D.Domain.Member c.args.program.now c.args.budget c.loop-left.at c.work.new.at c.loop-left.steps c.work.new.steps)) c.in-Some.is c.in_ok-weight.ensures.on in
+    let worked = one_worked g.D.Domain.ops g.D.Domain.Member c.args.program.now c.args.budget _ c.loop-left.at c.work.new.at c.loop-left.invariant.weight c.in-Some.weight c.args.steps.now c.loop-left.steps c.work.new.steps c.loop-left.invariant.worked unit.worked in
+    let none = c.loop-left.invariant.none (omega (arith, c.loop-left-test.true)) in
+    record {
+      weight = c.loop-left.invariant.weight + c.in-Some.weight;
+      worked = record { pauses = worked.pauses; has_passed = worked.has_passed; within = worked.within; count = worked.count; less = worked.less };
+      sum = omega (arith, c.loop-left.invariant.sum, none, c.saturating_sub-at-in-loop-left.ensures, c.saturating_sub-left-in-loop-left.ensures);
+      few = omega (arith, c.loop-left.invariant.few, unit.few, unit.some, c.loop-left-test.true, c.saturating_sub-left-in-loop-left.ensures);
+      light = omega (arith, unit.light, c.saturating_sub-at-in-loop-left.ensures);
+      none = λ some. omega (arith, some, c.saturating_sub-at-in-loop-left.ensures, c.saturating_sub-left-in-loop-left.ensures);
+    }
 
 pub returns-clause-on : goal.returns-clause-on
-returns-clause-on g c =
-    let all : c.loop.counter ≡ c.args.slice = omega (arith, c.loop-test.false, c.loop.auto.counter-end) in
-    subst (λ (n : ℕ). HasWorked g.D.Domain.ops g.D.Domain.Member c.args.program.now c.args.budget c.args.at.now c.loop.at n c.args.steps.now c.loop.steps) all c.loop.invariant
+returns-clause-on g c = record {
+  weight = c.loop-left.invariant.weight;
+  worked = worked_from g.D.Domain.ops g.D.Domain.Member c.args.program.now c.args.budget c.args.at.now _ c.loop-left.at c.loop-left.invariant.weight c.args.steps.now c.loop-left.steps refl refl refl c.loop-left.invariant.worked;
+  sum = omega (arith, c.loop-left.invariant.sum, c.saturating_sub-at.ensures, c.saturating_sub-left.ensures, c.loop-left-test.false);
+  few = omega (arith, c.loop-left.invariant.few, c.saturating_sub-left.ensures);
+  light = c.loop-left.invariant.light;
+}

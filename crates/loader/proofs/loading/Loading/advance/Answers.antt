@@ -9,6 +9,7 @@ use Rattle.verifier.specs.Slices.{Walking}
 use Rattle.verifier.specs.laws.Verdict.{real_verdict}
 use Rattle.verifier.specs.declared.refusal.Refusal.{Refusal}
 use Rattle.verifier.specs.declared.walk.Verified.{Verified}
+use Rattle.loader.specs.LoadingWalk.{LoadingWalk}
 use Rattle.loader.specs.Slices.{IsLoadEnd}
 use Rattle.loader.specs.declared.loaded.Loaded.{Loaded}
 use Rattle.loader.specs.declared.loaded.TheConstants.{BUDGET}
@@ -39,10 +40,10 @@ pub returns-in-Ok : goal.returns-in-Ok
 returns-in-Ok c =
     let ends : EndsIn interval_ops LiesBetween c.self.inside.walk c.args.slice 0 c.in-Ended.ensures.0 (Ok c.in-Ok.program) =
     subst (λ (r : Result Verified Refusal). EndsIn interval_ops LiesBetween c.self.inside.walk c.args.slice 0 c.in-Ended.ensures.0 r) c.in-Ok.is c.in-Ended.ensures.1 in
-    subst (λ (w : Walking Interval). IsLoadEnd w.code (Ok c.in-Ok.program)) c.self.view_is (accepted c.self.inside.walk c.args.slice c.in-Ended.ensures.0 c.in-Ok.program c.self.invariant ends)
+    subst (λ (l : LoadingWalk). IsLoadEnd l.walk.code (Ok c.in-Ok.program)) c.self.view_is (accepted c.self.inside.walk c.args.slice c.in-Ended.ensures.0 c.in-Ok.program c.self.invariant ends)
 
 pub returns-in-Err : goal.returns-in-Err
 returns-in-Err c =
     let ends : EndsIn interval_ops LiesBetween c.self.inside.walk c.args.slice 0 c.in-Ended.ensures.0 (Err c.in-Err.refusal) =
     subst (λ (r : Result Verified Refusal). EndsIn interval_ops LiesBetween c.self.inside.walk c.args.slice 0 c.in-Ended.ensures.0 r) c.in-Err.is c.in-Ended.ensures.1 in
-    subst (λ (w : Walking Interval). IsLoadEnd w.code (Err c.in-Err.refusal)) c.self.view_is (refused c.self.inside.walk c.args.slice c.in-Ended.ensures.0 c.in-Err.refusal c.self.invariant ends)
+    subst (λ (l : LoadingWalk). IsLoadEnd l.walk.code (Err c.in-Err.refusal)) c.self.view_is (refused c.self.inside.walk c.args.slice c.in-Ended.ensures.0 c.in-Err.refusal c.self.invariant ends)
