@@ -6,7 +6,6 @@ pub mod CounterValues
 pub mod Entries
 pub mod Filling
 pub mod Nonces
-pub mod Ports
 pub mod RoundSteps
 pub mod Rounds
 pub mod Schedules
