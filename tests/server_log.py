@@ -1,20 +1,24 @@
 """Runs the built relayd's `serve --log`: what it prints of allocations that are made and that end, and of refused credentials.
 
 Lines of sessions, of names that are no plain text, of users that are replaced, of lifetimes that pass (by clocks that are set, which
-needs gcc), and of more than a second may have.
+needs gcc), and of more than a second may have; and a terminal that nobody reads.
 """
 
 import contextlib
+import os
 import pathlib
 import random
+import re
+import select
 import shutil
 import sys
 import tempfile
 import time
+import tty
 
 from clock import MONOTONIC, REAL, SECOND, WHOLE, Clocks
 from lib.program import PASSED_OVER, run_parts
-from lib.rules import ALLOCATE, LIFETIME, NONCE, REALM, REFRESH, USERNAME, message
+from lib.rules import ALLOCATE, BINDING, LIFETIME, NONCE, REALM, REFRESH, USERNAME, message
 from lib.server import PERIOD, UDP, Client, Server, code_of, put, wanted
 
 # the lines that a second may have, and the requests of a burst
@@ -181,9 +185,46 @@ def bursts():
         yield from wanted("after a burst", server.printed(), line * MOST + end + line)
 
 
+# ---- a terminal
+
+def taken(leader):
+    """What has come to a terminal, until nothing more is there."""
+    text = b""
+    while select.select([leader], [], [], PERIOD)[0]:
+        text += os.read(leader, 1 << 16)
+    return text.decode()
+
+
+def unread_terminal():
+    """Yields what a server does otherwise than go on where its standard error is a terminal that nobody reads; and whether its lines
+    are whole but for one, once it is read."""
+    name = "é" * 64
+    leader, follower = os.openpty()
+    tty.setraw(follower)
+    with Server("--log", preexec_fn=lambda: os.dup2(follower, 2)) as server, Client(server, name, "p") as client:
+        client.challenge()
+        line = refused(client, '"' + 64 * "\\xc3\\xa9" + '"', "unknown user")
+        for _ in range(3):
+            for _ in range(MOST):
+                yield from wanted("a refusal", code_of(client.signed(ALLOCATE, [UDP])), 401)
+            time.sleep(1.1 * PERIOD)
+        text = taken(leader)
+        if not 4_096 < len(text) < 3 * MOST * len(line):
+            yield f"{len(text)} bytes in a terminal that nobody reads"
+        yield from wanted("a Binding", client.ask(BINDING, []).kind, BINDING | 0x100)
+        client.signed(ALLOCATE, [UDP])
+        *lines, last = (text + taken(leader)).splitlines(True)
+        cut = [found for found in lines if found != line and not re.fullmatch(r"\d+ lines of the log left out\n", found)]
+        if len(cut) > 1 or not all(line.startswith(found.rstrip("\n")) for found in cut):
+            yield f"cut lines: {cut!r}"
+        yield from wanted("the last line", last, line)
+    os.close(leader)
+    os.close(follower)
+
+
 def main():
     """Runs every part, and returns the exit status."""
-    return run_parts("the log of a server", [sessions, credentials, replaced_users, lifetimes, bursts])
+    return run_parts("the log of a server", [sessions, credentials, replaced_users, lifetimes, bursts, unread_terminal])
 
 
 if __name__ == "__main__":

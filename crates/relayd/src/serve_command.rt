@@ -432,7 +432,7 @@ fn serve_lines<
             "unconfined: the programs may send to and from peers that no client has permitted"
         );
     }
-    match ErrorLines::new(rt.alloc(), err) {
+    match ErrorLines::new(rt, err) {
         Ok(mut lines) => server.serve(rt, &mut lines, server_options),
         Err(_) => Err(CommandError::Memory),
     }
