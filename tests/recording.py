@@ -238,17 +238,19 @@ def not_sent():
 
 # ---- the end of a recording
 
-def limit_files():
-    """Lets this process write no file longer than `MOST_BYTES`: a write beyond fails."""
+def ignore_long_files():
+    """Lets this process go on after a write beyond what a file may have, which then fails."""
     signal.signal(signal.SIGXFSZ, signal.SIG_IGN)  # which Popen would undo by `restore_signals`
+
+
+def limit_files():
+    """Lets this process write no file longer than `MOST_BYTES`: a write beyond ends it."""
     resource.setrlimit(resource.RLIMIT_FSIZE, (MOST_BYTES, MOST_BYTES))
 
 
-def full_file():
-    """Yields what a server does otherwise than go on after a write that fails, with whole lines in the file."""
-    with contextlib.ExitStack() as stack:
-        path, server, heard = stack.enter_context(recorded(preexec_fn=limit_files, restore_signals=False))
-        client, peer = stack.enter_context(HeardClient(server, heard)), stack.enter_context(udp_socket())
+def ending(why, server, path, heard):
+    """Yields what a server does otherwise than go on after its recording has ended for a reason, with whole lines in the file."""
+    with HeardClient(server, heard) as client, udp_socket() as peer:
         client.allocate()
         client.bind(address_of(peer))
         for number in range(DATAGRAMS):
@@ -256,13 +258,33 @@ def full_file():
             client.send(channel_data(data))
             yield from wanted(f"datagram {number}", heard.peer(peer), data)
             server.becomes("S")
-        line = f"recording to {path} ended: error {TOO_LARGE} of the system\n"
-        server.awaited(line)
-        yield from wanted("lines", server.printed(), line)
-        answers = replayed(server, path)
-        if not MOST_BYTES - 3_000 < path.stat().st_size <= MOST_BYTES or not kinds(path):
-            yield f"{path.stat().st_size} bytes"
-        yield from wanted("the answers before", answers, heard.lines[:len(answers)])
+    line = f"recording to {path} ended: {why}\n"
+    server.awaited(line)
+    yield from wanted("lines", server.printed(), line)
+    answers = replayed(server, path)
+    if not MOST_BYTES - 3_000 < path.stat().st_size <= MOST_BYTES or not kinds(path):
+        yield f"{path.stat().st_size} bytes"
+    yield from wanted("the answers before", answers, heard.lines[:len(answers)])
+
+
+def full_file():
+    """Yields what is otherwise where a write fails."""
+    with recorded(preexec_fn=ignore_long_files, restore_signals=False) as (path, server, heard):
+        resource.prlimit(server.process.pid, resource.RLIMIT_FSIZE, (MOST_BYTES, MOST_BYTES))
+        yield from ending(f"error {TOO_LARGE} of the system", server, path, heard)
+
+
+def long_file():
+    """Yields what is otherwise where the file has what it may have, by an option and by the system's limit, whichever is less."""
+    why = f"it may have {MOST_BYTES} bytes"
+    with recorded("--record-limit", str(MOST_BYTES)) as (path, server, heard):
+        yield from ending(why, server, path, heard)
+    with recorded("--record-limit", str(MOST_BYTES + 1), preexec_fn=limit_files) as (path, server, heard):
+        yield from ending(why, server, path, heard)
+    with recorded("--record-limit", "0") as (path, server, heard), HeardClient(server, heard) as client:
+        client.ask(BINDING, [])
+        yield from wanted("a record without room", server.awaited(f"recording to {path} ended: it may have 0 bytes\n"), 1)
+        yield from wanted("its bytes", path.stat().st_size, 0)
 
 
 def programs():
@@ -317,7 +339,7 @@ def users():
 
 def main():
     """Runs every part, and returns the exit status."""
-    parts = [session, batches, datagrams_sent, failed_receives, not_sent, full_file, programs, users]
+    parts = [session, batches, datagrams_sent, failed_receives, not_sent, full_file, long_file, programs, users]
     return run_parts("recording", parts)
 
 

@@ -25,3 +25,6 @@ pub const BUFFER: i32 = 4194304;
 
 /// The seconds after which a nonce is replaced.
 pub const NONCE_LIFETIME: u64 = 3600;
+
+/// The most bytes of a record.
+pub const RECORD_LIMIT: u64 = 1_073_741_824;

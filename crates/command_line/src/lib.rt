@@ -83,6 +83,8 @@ pub struct ServerOptions<'a> {
     pub metrics: Option<&'a str>,
     /// The file that is made of the server's events; `None` is to record none.
     pub record: Option<&'a str>,
+    /// The most bytes of that file; 1073741824 by default.
+    pub record_limit: u64,
     /// Whether allocations and refused credentials are printed.
     pub log: bool,
     /// Whether the programs may send to and from peers that clients haven't permitted.
@@ -531,6 +533,12 @@ fn with_record<'a>(alloc: Global, command: Command<'a>) -> Result<Command<'a>, A
             "record",
             "FILE",
             "Write each event to a new file, as replay reads it: what users send is in it",
+        ))?
+        .arg(option(
+            alloc,
+            "record-limit",
+            "BYTES",
+            "What the file of --record has at most, in whole lines; 1073741824 by default",
         ))?
         .arg(flag(
             alloc,

@@ -1,6 +1,8 @@
 //! The subcommand of a parsed command line, with the values of its arguments.
 
-use crate::defaults::{BUFFER, FIRST_PORT, LISTEN, NONCE, NONCE_LIFETIME, REALM, SLOTS};
+use crate::defaults::{
+    BUFFER, FIRST_PORT, LISTEN, NONCE, NONCE_LIFETIME, REALM, RECORD_LIMIT, SLOTS,
+};
 use crate::values::{ValueError, buffer, ip, ip6, number, octets6, port, seconds, slots};
 use crate::{Options, ServerOptions, Subcommand};
 use clap::ArgMatches;
@@ -132,6 +134,7 @@ fn serve_of<'a>(matches: &'a ArgMatches<'_>) -> Result<Option<Subcommand<'a>>, V
     let buffer = buffer("--buffer <BYTES>", text(matches, "buffer"))?;
     let nonce_lifetime = seconds("--nonce-lifetime <S>", text(matches, "nonce-lifetime"))?;
     let stats = seconds("--stats <S>", text(matches, "stats"))?;
+    let record_limit = number("--record-limit <BYTES>", text(matches, "record-limit"))?;
     let options = options_of(matches)?;
     let server = ServerOptions {
         port,
@@ -146,6 +149,7 @@ fn serve_of<'a>(matches: &'a ArgMatches<'_>) -> Result<Option<Subcommand<'a>>, V
         stats,
         metrics: text(matches, "metrics"),
         record: text(matches, "record"),
+        record_limit: record_limit.unwrap_or(RECORD_LIMIT),
         log: is_given(matches, "log"),
         unconfined: is_given(matches, "unconfined"),
     };
@@ -175,7 +179,7 @@ fn named<'a>(
 ///
 /// # Errors
 /// The first text that spells no value of its option, in this order: those of `--port`, `--rounds`, `--listen`, `--listen6`,
-/// `--buffer`, `--nonce-lifetime` and `--stats`; then those of `--relay-ip6`, `--slots`, `--relay-ip` and `--first-port`.
+/// `--buffer`, `--nonce-lifetime`, `--stats` and `--record-limit`; then those of `--relay-ip6`, `--slots`, `--relay-ip` and `--first-port`.
 /// See docs/DECISIONS.md, "Numbers of options".
 pub fn subcommand_of<'a>(
     matches: &'a ArgMatches<'_>,

@@ -158,7 +158,7 @@ const GOOD: [Good; 30] = [
     // a server with its port alone, and with every option
     Good {
         words: &["relayd", "serve", "--port", "3478"],
-        subcommand: r#"Serve { server: ServerOptions { port: 3478, rounds: None, listen: 127.0.0.1, listen6: None, buffer: 4194304, reuse_port: false, deny: None, allow: None, nonce_lifetime: 3600, stats: None, metrics: None, record: None, log: false, unconfined: false }, options: Options { realm: "relay", users: None, users_file: None, secret_file: None, slots: 16, relay_ip: None, relay_ip6: None, first_port: 49152, client: None, peer: None, same_as: None } }"#,
+        subcommand: r#"Serve { server: ServerOptions { port: 3478, rounds: None, listen: 127.0.0.1, listen6: None, buffer: 4194304, reuse_port: false, deny: None, allow: None, nonce_lifetime: 3600, stats: None, metrics: None, record: None, record_limit: 1073741824, log: false, unconfined: false }, options: Options { realm: "relay", users: None, users_file: None, secret_file: None, slots: 16, relay_ip: None, relay_ip6: None, first_port: 49152, client: None, peer: None, same_as: None } }"#,
     },
     Good {
         words: &[
@@ -192,6 +192,7 @@ const GOOD: [Good; 30] = [
             "60",
             "--record",
             "e",
+            "--record-limit=0",
             "--log",
             "--listen=192.0.2.10",
             "--listen6=2001:db8::10",
@@ -210,7 +211,7 @@ const GOOD: [Good; 30] = [
             "--port",
             "3478",
         ],
-        subcommand: r#"Serve { server: ServerOptions { port: 3478, rounds: Some(0), listen: 192.0.2.10, listen6: Some(2001:db8::10), buffer: 1073741823, reuse_port: true, deny: Some(["d", "e"]), allow: Some(["f"]), nonce_lifetime: 60, stats: Some(5), metrics: Some("m"), record: Some("e"), log: true, unconfined: true }, options: Options { realm: "r", users: Some(["u", "v"]), users_file: Some("f"), secret_file: Some("s"), slots: 2, relay_ip: Some(203.0.113.1), relay_ip6: Some([32, 1, 13, 184, 0, 0, 0, 0, 0, 0, 0, 0, 0, 0, 0, 171]), first_port: 1, client: Some("c"), peer: Some("p"), same_as: Some(["a=b"]) } }"#,
+        subcommand: r#"Serve { server: ServerOptions { port: 3478, rounds: Some(0), listen: 192.0.2.10, listen6: Some(2001:db8::10), buffer: 1073741823, reuse_port: true, deny: Some(["d", "e"]), allow: Some(["f"]), nonce_lifetime: 60, stats: Some(5), metrics: Some("m"), record: Some("e"), record_limit: 0, log: true, unconfined: true }, options: Options { realm: "r", users: Some(["u", "v"]), users_file: Some("f"), secret_file: Some("s"), slots: 2, relay_ip: Some(203.0.113.1), relay_ip6: Some([32, 1, 13, 184, 0, 0, 0, 0, 0, 0, 0, 0, 0, 0, 0, 171]), first_port: 1, client: Some("c"), peer: Some("p"), same_as: Some(["a=b"]) } }"#,
     },
     // the program may have any name
     Good {
@@ -241,7 +242,7 @@ struct Wrong {
     line: &'static str,
 }
 
-const WRONG: [Wrong; 24] = [
+const WRONG: [Wrong; 25] = [
     // a slot
     Wrong {
         words: &["relayd", "explain", "a.bpf", "--slot="],
@@ -411,9 +412,20 @@ const WRONG: [Wrong; 24] = [
             "serve",
             "--port=3478",
             "--stats=0",
+            "--record-limit=1e9",
             "--relay-ip6=x",
         ],
         line: "error: invalid value '0' for '--stats <S>'",
+    },
+    Wrong {
+        words: &[
+            "relayd",
+            "serve",
+            "--port=3478",
+            "--record-limit=1e9",
+            "--relay-ip6=x",
+        ],
+        line: "error: invalid value '1e9' for '--record-limit <BYTES>'",
     },
     Wrong {
         words: &["relayd", "serve", "--port=3478", "--relay-ip6=x"],
@@ -643,6 +655,8 @@ const REFUSED: [Refused; 54] = [
             "Write the counters to a file each 15 seconds, in the text format of Prometheus",
             "--record <FILE>",
             "Write each event to a new file, as replay reads it: what users send is in it",
+            "--record-limit <BYTES>",
+            "What the file of --record has at most, in whole lines; 1073741824 by default",
             "--log",
             "Print allocations and refused credentials to standard error, at most 100 lines a second",
             "--realm <R>",

@@ -2,6 +2,8 @@
 
 use basics::streams::Output;
 use events::{Event, Meta, write_event};
+use libc::getrlimit;
+use libc::types::rlimit;
 use semantics::MAX_DATAGRAM;
 use server::Recorder;
 use std::fs::{File, OpenOptions};
@@ -19,6 +21,9 @@ const ROOM: usize = 4 * LONGEST;
 
 /// The permissions of the file: its owner reads and writes it, and nobody else.
 const MODE: u32 = 0o600;
+
+/// What getrlimit is asked: the most bytes that a file of the process may have. Who writes more is killed.
+const RLIMIT_FSIZE: i32 = 1;
 
 /// Why a recording can't begin. Displays as the reason.
 #[derive(Clone, Copy, Debug, Error)]
@@ -48,6 +53,9 @@ pub enum RecordEnd {
     Programs,
     #[error("the users are replaced")]
     Users,
+    /// It has as many whole lines as it may.
+    #[error("it may have {0} bytes")]
+    Length(u64),
 }
 
 /// A file of events, as lines.
@@ -59,6 +67,8 @@ struct RecordFile<'a> {
     lines: Vec<u8>,
     /// The bytes of those that were written.
     written: u64,
+    /// The most bytes that the file may have.
+    limit: u64,
     /// Why no more is recorded.
     end: Option<RecordEnd>,
 }
@@ -82,16 +92,23 @@ impl From<io::Error> for RecordError {
 }
 
 impl RecordFile<'_> {
-    /// Adds the line of an event.
+    /// Takes the last line back, which begins at this byte, since no more is recorded.
+    fn take_back(&mut self, line: usize, why: RecordEnd) {
+        self.lines.truncate(line);
+        self.end = Some(why);
+    }
+
+    /// Adds the line of an event. Where the file would be longer than it may be, no more is recorded.
     #[inline(never)]
     fn record(&mut self, event: &Event<'_>) {
         if self.end.is_some() {
             return;
         }
-        let whole = self.lines.len();
+        let line = self.lines.len();
         if write_event(&mut Output::new(&mut self.lines), event).is_err() {
-            self.lines.truncate(whole);
-            self.end = Some(RecordEnd::Memory);
+            self.take_back(line, RecordEnd::Memory);
+        } else if self.lines.len() as u64 > self.limit.saturating_sub(self.written) {
+            self.take_back(line, RecordEnd::Length(self.limit));
         }
         if self.lines.len() > ROOM - LONGEST {
             self.write();
@@ -119,14 +136,29 @@ impl RecordFile<'_> {
     }
 }
 
+/// Returns the most bytes that a file of this process may have, beside another limit.
+fn file_limit(limit: u64) -> u64 {
+    let mut of = rlimit {
+        rlim_cur: limit,
+        rlim_max: limit,
+    };
+    if getrlimit(RLIMIT_FSIZE, &mut of) == 0 {
+        limit.min(of.rlim_cur)
+    } else {
+        limit
+    }
+}
+
 impl<'a> Recording<'a> {
-    /// Makes the file of a path, if one is given, for a recording, and takes its memory.
+    /// Makes the file of a path, if one is given, for a recording, and takes its memory. It has at most `limit` bytes, and no more
+    /// than a file of this process may have.
     ///
     /// # Errors
     /// Where the file is there already or can't be made, and where memory runs out.
     pub fn begin<R: Files<File = File> + AllocGlobal>(
         rt: &R,
         path: Option<&'a str>,
+        limit: u64,
     ) -> Result<Recording<'a>, RecordError> {
         let Some(path) = path else {
             return Ok(Recording { file: None });
@@ -146,6 +178,7 @@ impl<'a> Recording<'a> {
                 file,
                 lines,
                 written: 0,
+                limit: file_limit(limit),
                 end: None,
             }),
         })

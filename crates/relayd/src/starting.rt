@@ -101,9 +101,10 @@ fn bind_sockets<R: Net + AllocGlobal>(
 /// Begins the recording of a server, if one is wanted.
 fn recording_of<'a, R: Files<File = File> + AllocGlobal>(
     rt: &R,
-    path: Option<&'a str>,
+    server_options: &ServerOptions<'a>,
 ) -> Result<Recording<'a>, CommandError<'a>> {
-    match Recording::begin(rt, path) {
+    let path = server_options.record;
+    match Recording::begin(rt, path, server_options.record_limit) {
         Ok(recording) => Ok(recording),
         Err(RecordError::Memory) => Err(CommandError::Memory),
         Err(error) => Err(CommandError::Record(path.unwrap_or(""), error)),
@@ -126,7 +127,7 @@ fn wire_of<'a, R: Files<File = File> + Net + RandomSource + AllocGlobal>(
     Ok(Wire {
         sockets,
         filter: Some(filter),
-        recording: recording_of(rt, server_options.record)?,
+        recording: recording_of(rt, server_options)?,
         counters: Counters::new(),
         rng,
         tx,
