@@ -36,9 +36,9 @@ def forks(bodies, first=0):
     return lines
 
 
-def chain(jumps):
+def chain(jumps, register=2):
     """Returns jumps over nothing."""
-    return ["jset r2, 1, +0"] * jumps
+    return [f"jset r{register}, 1, +0"] * jumps
 
 
 def sums(count, register):
@@ -86,6 +86,71 @@ def anchors(count):
     return [["mov r6, r9", f"and r7, {(1 << number) | 1}", "add r6, r7", "ldxdw r7, [r1+24]"] for number in range(count)]
 
 
+def linked(pointers, count):
+    """Returns the lines of a program that keeps pointers at one place of the datagram on the stack, and after forks some at
+    another place that may be the same."""
+    lines = ["mov r0, 0", "ldxdw r9, [r1+24]", "ldxdw r6, [r1+0]", "ldxdw r8, [r1+16]", "and r8, 255"]
+    for register in (7, 5, 4):
+        lines += [f"mov r{register}, r6", f"add r{register}, r8"]
+    lines += [f"stxdw [r10-{8 * (group + 1)}], r{7 if group < count else 4}" for group in range(pointers)]
+    lines += ["mov r6, 0", "mov r8, 0", "mov r1, 0"]
+    for number in range(count):
+        lines += [f"jset r9, {1 << number}, +1", f"stxdw [r10-{8 * (number + 1)}], r5"]
+    return lines + ["mov r4, 0", "mov r5, 0", "mov r7, 0", *chain(1, 9), "exit"]
+
+
+def wide_numbers(count):
+    """Returns the lines of a program whose forks add to numbers of a span that is too wide for signatures to tell them apart."""
+    registers = (8, 7, 6, 5, 4, 3, 2, 0)
+    lines = ["ldxdw r9, [r1+24]", "ldxdw r0, [r1+24]", "rsh r0, 6"]
+    lines += [f"mov r{register}, r0" for register in registers[:-1]] + ["mov r1, 0"]
+    for number in range(count):
+        lines += [f"jset r9, {1 << number}, +1", f"add r{registers[number // 2]}, {1 + number % 2}"]
+    return lines + ["exit"]
+
+
+def products(registers, count):
+    """Returns the lines of a program whose forks multiply intervals by other primes: none is known exactly, and none contains
+    another."""
+    primes = [number for number in range(2, 50) if all(number % factor for factor in range(2, number))]
+    lines = ["mov r0, 0", "ldxdw r9, [r1+24]", "ldxdw r8, [r1+16]", "and r8, 1", "add r8, 1", "mov r1, 0"]
+    lines += [f"mov r{2 + number}, r8" for number in range(registers)]
+    for number in range(count):
+        lines += [f"jset r9, {1 << number}, +1", f"mul r{2 + number % registers}, {primes[number]}"]
+    return lines + ["exit"]
+
+
+def reaching(count):
+    """Returns the lines of a program that keeps pointers at other places of the datagram on the stack, and whose forks compare
+    one of them with the end."""
+    lines = ["mov r0, 0", "ldxdw r9, [r1+24]", "ldxdw r6, [r1+0]", "ldxdw r7, [r1+8]", "ldxdw r8, [r1+16]", "and r8, 255"]
+    for number in range(count):
+        lines += ["mov r5, r6", "add r5, r8", f"stxdw [r10-{8 * (number + 1)}], r5"]
+    lines += ["mov r6, 0", "mov r8, 0", "mov r1, 0", "mov r5, 0"]
+    for number in range(count):
+        lines += [f"jset r9, {1 << number}, past{number}", f"ldxdw r5, [r10-{8 * (number + 1)}]", "mov r4, r5", "add r4, 4",
+                  f"jgt r4, r7, past{number}", f"past{number}:", "mov r4, 0", "mov r5, 0"]
+    return lines + [*chain(1, 9), "exit"]
+
+
+def full_marks(count):
+    """Returns the lines of a program that sets 64 bytes of the stack, and whose forks set other ones."""
+    lines = ["mov r0, 0", "ldxdw r9, [r1+24]", "mov r1, 0"]
+    lines += [f"stdw [r10-{BYTES - 8 * group}], 0" for group in range(8)]
+    for number in range(count):
+        lines += [f"jset r9, {1 << number}, +1", f"stb [r10-{BYTES - 64 - 30 * number}], 0"]
+    return lines + [*chain(1, 9), "exit"]
+
+
+def longest_programs():
+    """Returns the texts of programs that are known to take longer than others, so that a server gives them up."""
+    return {
+        "64 pointers, of which 13 are linked otherwise": linked(64, 13),
+        "wide numbers, 15 forks": wide_numbers(15),
+        "products of primes in two registers, 15 forks": products(2, 15),
+    }
+
+
 def known_programs():
     """Returns the texts of the programs that are known, with their names."""
     zero = ["mov r0, 0", "mov r9, 0"]
@@ -114,6 +179,13 @@ def known_programs():
         "32 states, and 4,000 jumps": HEAD + zero + forks(sums(5, 0)) + chain(LONG) + TAIL,
         "64 pointers, 32 states, and 4,000 jumps": HEAD + zero[:1] + kept + forks(sums(5, 0)) + chain(LONG - 100) + TAIL,
         "64 pointers, of which each target stores one": HEAD + zero + kept + jumps + forks(sums(6, 9)) + stored + TAIL,
+        "16 pointers, of which 10 are linked otherwise": linked(16, 10),
+        "64 pointers, of which 9 are linked otherwise": linked(64, 9),
+        "wide numbers": wide_numbers(13),
+        "products of primes in a register": products(1, 13),
+        "products of primes in two registers": products(2, 13),
+        "lengths from other places": reaching(13),
+        "marks whose word is full": full_marks(13),
     }
 
 
