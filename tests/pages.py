@@ -4,10 +4,11 @@ Each page has a folder of its own, in which examples/ is. A block `asm` is assem
 `console` has lines `$ relayd WORD..` or `$ ./relayd WORD..`, each with what that command prints, and lines
 `$ cat FILE.. > FILE`. A block `sh` has commands, of which those of relayd are run and have to succeed. So have those of a block
 `text`, whose files the reader would have made: an example stands for each that isn't there, and a server tests its configuration
-on an address of this machine, writes metrics beside these files, and ends (`--rounds 0`). The unit of systemd is read by
+on an address of this machine, writes metrics beside these files, and ends (`--rounds 0`). The units of systemd are read by
 `systemd-analyze`, where that is installed.
 """
 
+import os
 import pathlib
 import re
 import shlex
@@ -93,18 +94,21 @@ def failures_of_block(kind, text, folder):
                 yield command
 
 
-def failures_of_unit():
-    """Yields what systemd says of the unit, with a program that is there in place of relayd."""
+def failures_of_units():
+    """Yields what systemd says of the units, with a program that is there in place of relayd."""
     tool = shutil.which("systemd-analyze")
     if tool is None:
         return
     with tempfile.TemporaryDirectory() as name:
-        unit = pathlib.Path(name) / "relayd.service"
-        text = (TOP / "examples" / "relayd.service").read_text(encoding="utf-8")
-        unit.write_text(text.replace("/usr/local/bin/relayd", "/bin/true"), encoding="utf-8")
-        ran = subprocess.run([tool, "verify", unit], capture_output=True, text=True, check=False)
-        if ran.returncode or ran.stderr:
-            yield f"examples/relayd.service: {ran.stderr}"
+        units = [pathlib.Path(name) / unit for unit in ("relayd@.service", "relayd.target")]
+        for unit in units:
+            text = (TOP / "examples" / "systemd" / unit.name).read_text(encoding="utf-8")
+            unit.write_text(text.replace("/usr/local/bin/relayd", "/bin/true"), encoding="utf-8")
+        environment = {**os.environ, "SYSTEMD_UNIT_PATH": f"{name}:"}
+        for unit in units:
+            ran = subprocess.run([tool, "verify", unit], capture_output=True, text=True, check=False, env=environment)
+            if ran.returncode or ran.stderr:
+                yield f"examples/systemd/{unit.name}: {ran.stderr}"
 
 
 def failures_of_page(page, blocks):
@@ -121,7 +125,7 @@ def main():
     """Runs every block, and returns the exit status."""
     blocks = {page: BLOCK.findall(page.read_text(encoding="utf-8")) for page in PAGES}
     failures = [failure for page, found in blocks.items() for failure in failures_of_page(page, found)]
-    failures += failures_of_unit()
+    failures += failures_of_units()
     count = sum(len(found) for found in blocks.values())
     if not count:
         failures.append("no blocks")
