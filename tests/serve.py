@@ -29,13 +29,13 @@ from lib.rules import (
 from lib.server import (
     BAD, DISCARD, LOOPBACK, LOOPBACK6, PERIOD, UDP, USER, Client, Server, address_of, channel_data, code_of, comes, counters,
     fault_line, free_ports, full_pipe, passed, put, round_trip, run, samples_of, started, udp_socket, wanted, without_buffers)
-from worst_programs import known_programs
+from worst_programs import known_programs, longest_programs
 
 CLIENTS, DATAGRAMS, BATCH = 10, 200_000, 40
 # programs whose verification takes seconds, the round trips that are made meanwhile, and how long one may take, in seconds: a
 # server verifies for a quarter of a millisecond between two turns, and other processes take their time too. A machine that
 # stops for a moment makes a round trip late once; a server that is held up makes one late at each attempt.
-SLOW = "sums in the last register", "marks with a chain", "64 pointers, 32 states, and 4,000 jumps"
+SLOW = "sums in the last register", "marks with a chain", "64 pointers, 32 states, and 4,000 jumps", "wide numbers, 15 forks"
 SLOWEST = "pointers on the stack"
 ROUND_TRIPS, MOST_TRIPS, LATE, ATTEMPTS = 10_000, 1_000_000, 0.1, 3
 # The receives that fail, counted from the start. With two slots the first three are one at each socket, where nothing
@@ -620,15 +620,17 @@ def replaced_programs():
 
 
 def slow_program(server, client, peer, path, title, program):
-    """Yields what is lost of datagrams that come while a program is verified that is refused; returns the longest round trip."""
+    """Yields what is lost of datagrams that come while a program is verified that is refused, or given up; returns the longest round
+    trip."""
     relayed = ("127.0.0.1", server.first_port)
-    refusals = server.printed().count("refused V17")
+    line = f"cannot use {path}: it takes too long to verify\n" if title in longest_programs() else "refused V17"
+    refusals = server.printed().count(line)
     put(path, program)
     trips = []
-    while len(trips) < ROUND_TRIPS or (len(trips) < MOST_TRIPS and server.printed().count("refused V17") == refusals):
+    while len(trips) < ROUND_TRIPS or (len(trips) < MOST_TRIPS and server.printed().count(line) == refusals):
         trips += [round_trip(client, peer, relayed, struct.pack(">I", number)) for number in range(500)]
     yield from wanted(f"{title}: datagrams lost", trips.count(None), 0)
-    if server.awaited("refused V17", refusals + 1) != refusals + 1:
+    if server.awaited(line, refusals + 1) != refusals + 1:
         yield f"{title}: {server.printed()!r}"
     return max(trip or 0 for trip in trips)
 
@@ -643,7 +645,8 @@ def slow_programs():
             client.allocate()
             client.bind(address_of(peer))
             for title in SLOW:
-                program = assembled(folder, "slow", "\n".join(known_programs()[title])).read_bytes()
+                lines = (known_programs() | longest_programs())[title]
+                program = assembled(folder, "slow", "\n".join(lines)).read_bytes()
                 for _ in range(ATTEMPTS):
                     slowest = yield from slow_program(server, client, peer, path, title, program)
                     if slowest <= LATE:
@@ -671,6 +674,28 @@ def withdrawn_programs():
             yield from wanted("lines before", server.printed(), "")
             put(paths["peer"], good)
             yield from wanted("loaded", server.awaited(f"loaded {paths['client']}\n"), 1)
+
+
+def drained():
+    """Yields what is otherwise where a program is loaded that drains the server: who has an allocation goes on with it, and nobody
+    gets one."""
+    with tempfile.TemporaryDirectory() as name:
+        folder = pathlib.Path(name)
+        path = shipped(folder, "client")
+        parts = [(TOP / "examples" / "relay" / f"{part}.s").read_text(encoding="utf-8") for part in ("drain", "client")]
+        drain = assembled(folder, "drain", "".join(parts))
+        with Server("--client", str(path)) as server, Client(server) as client, Client(server) as late, udp_socket() as peer:
+            client.allocate()
+            client.bind(address_of(peer))
+            late.challenge()
+            put(path, drain.read_bytes())
+            server.awaited(f"loaded {path}\n")
+            # that which is answered first isn't the request for an allocation
+            late.send(message(ALLOCATE, random.randbytes(12), [UDP]))
+            yield from wanted("a Binding request of who has none", late.ask(BINDING, []).kind, BINDING | 0x100)
+            yield from wanted("a Refresh", code_of(client.signed(REFRESH, [])), 0)
+            yield from wanted("data there and back", passed(server, client, peer, BOTH), BOTH)
+            yield from wanted("the end of it", code_of(client.signed(REFRESH, [(LIFETIME, bytes(4))])), 0)
 
 
 def put_users(server, path, users, printed, line):
@@ -859,7 +884,7 @@ def main():
     """Runs every part, and returns the exit status."""
     parts = [refused_lines, rounds, metrics_of_rounds, addresses, addresses6, default_ports, default_slots, counted_rounds, receives_of_rounds,
              session, session6, no_family6, transactions, many_slots, faults, failed_receives, idle, idle_files, nonces,
-             replaced_programs, slow_programs, withdrawn_programs, users_that_come_and_go, turns, ahead, many]
+             replaced_programs, slow_programs, withdrawn_programs, drained, users_that_come_and_go, turns, ahead, many]
     return run_parts("serve", parts)
 
 
