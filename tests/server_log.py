@@ -21,8 +21,10 @@ from lib.program import PASSED_OVER, run_parts
 from lib.rules import ALLOCATE, BINDING, LIFETIME, NONCE, REALM, REFRESH, USERNAME, message
 from lib.server import PERIOD, UDP, Client, Server, code_of, put, wanted
 
-# the lines that a second may have, and the requests of a burst
-MOST, BURST = 100, 160
+# the lines of refusals that a second may have, of users that there are and of others each, and the requests of a burst
+MOST, BURST = 20, 160
+# the seconds for which a terminal isn't read
+UNREAD = 8
 # a name, and how it is shown
 NAMES = [
     ("ann", '"ann"'),
@@ -185,6 +187,27 @@ def bursts():
         yield from wanted("after a burst", server.printed(), line * MOST + end + line)
 
 
+def others_lines():
+    """Yields what is otherwise where strangers use up their lines of a second: those of users and of allocations are there."""
+    with Server("--log", slots=1) as server, Client(server) as client, Client(server, "u", "wrong") as guesser, \
+            Client(server, "x", "p") as stranger:
+        for each in (client, guesser, stranger):
+            each.challenge()
+        with server.stopped():
+            for _ in range(BURST):
+                given = [UDP, (USERNAME, b"x"), (REALM, b"relay"), (NONCE, stranger.nonce)]
+                stranger.send(message(ALLOCATE, random.randbytes(12), given, stranger.key))
+            guesser.send(message(ALLOCATE, random.randbytes(12), [UDP, (USERNAME, b"u"), (REALM, b"relay"), (NONCE, guesser.nonce)],
+                                 guesser.key))
+            client.send(message(ALLOCATE, random.randbytes(12), [UDP, (USERNAME, b"u"), (REALM, b"relay"), (NONCE, client.nonce)],
+                                client.key))
+        end = f"{BURST - MOST} lines of the log left out\n"
+        server.awaited(end)
+        lines = [refused(stranger, '"x"', "unknown user")] * MOST
+        lines += [refused(guesser, '"u"', "wrong password"), made(server, client), end]
+        yield from wanted("the lines of a burst", server.printed(), "".join(lines))
+
+
 # ---- a terminal
 
 def taken(leader):
@@ -204,12 +227,12 @@ def unread_terminal():
     with Server("--log", preexec_fn=lambda: os.dup2(follower, 2)) as server, Client(server, name, "p") as client:
         client.challenge()
         line = refused(client, '"' + 64 * "\\xc3\\xa9" + '"', "unknown user")
-        for _ in range(3):
+        for _ in range(UNREAD):
             for _ in range(MOST):
                 yield from wanted("a refusal", code_of(client.signed(ALLOCATE, [UDP])), 401)
             time.sleep(1.1 * PERIOD)
         text = taken(leader)
-        if not 4_096 < len(text) < 3 * MOST * len(line):
+        if not 4_096 < len(text) < UNREAD * MOST * len(line):
             yield f"{len(text)} bytes in a terminal that nobody reads"
         yield from wanted("a Binding", client.ask(BINDING, []).kind, BINDING | 0x100)
         client.signed(ALLOCATE, [UDP])
@@ -224,7 +247,7 @@ def unread_terminal():
 
 def main():
     """Runs every part, and returns the exit status."""
-    return run_parts("the log of a server", [sessions, credentials, replaced_users, lifetimes, bursts, unread_terminal])
+    return run_parts("the log of a server", [sessions, credentials, replaced_users, lifetimes, bursts, others_lines, unread_terminal])
 
 
 if __name__ == "__main__":

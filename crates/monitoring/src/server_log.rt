@@ -15,7 +15,16 @@ use tables::{Allocation, Tables};
 use thiserror::Error;
 
 /// The most lines of a period, the line that counts the others aside.
-const LINES: usize = 100;
+const LINES: usize = ALLOCATION_LINES + USER_LINES + STRANGER_LINES;
+
+/// The most lines of allocations, which nobody's refusals take.
+const ALLOCATION_LINES: usize = 60;
+
+/// The most lines of refusals of users that there are, which nobody else's refusals take.
+const USER_LINES: usize = 20;
+
+/// The most lines of other refusals.
+const STRANGER_LINES: usize = 20;
 
 /// The seconds of a period.
 const PERIOD: u64 = 1;
@@ -77,6 +86,14 @@ enum Happening {
     Refused(RefusalReason),
 }
 
+/// The lines of a period, by what they say.
+#[derive(Clone, Copy)]
+struct Counts {
+    allocations: usize,
+    users: usize,
+    strangers: usize,
+}
+
 /// A line of the log. Displays as that.
 #[derive(Clone, Copy)]
 struct Entry {
@@ -105,7 +122,7 @@ pub struct ServerLog {
     /// What is still to be printed.
     entries: Vec<Entry>,
     /// How many were added in this period, those that were printed included.
-    count: usize,
+    counts: Counts,
     /// How many weren't, since there were too many.
     left_out: u64,
     period: Timer,
@@ -161,6 +178,38 @@ impl Sender {
 impl fmt::Display for Sender {
     fn fmt<W: fmt::Write>(&self, f: &mut fmt::Formatter<W>) -> fmt::Result {
         write!(f, "client {}, user {}", self.client, self.name)
+    }
+}
+
+/// Counts one more, unless there are as many as there may be. Returns whether it is counted.
+fn count_one(count: &mut usize, most: usize) -> bool {
+    let has_room = *count < most;
+    if has_room {
+        *count += 1;
+    }
+    has_room
+}
+
+impl Counts {
+    const NONE: Counts = Counts {
+        allocations: 0,
+        users: 0,
+        strangers: 0,
+    };
+
+    /// Counts a line, unless the period has as many of its kind as it may have. Returns whether it is counted.
+    fn add(&mut self, happening: Happening) -> bool {
+        match happening {
+            Happening::Made { .. } | Happening::Ended { .. } => {
+                count_one(&mut self.allocations, ALLOCATION_LINES)
+            }
+            Happening::Refused(RefusalReason::WrongPassword | RefusalReason::OtherUser) => {
+                count_one(&mut self.users, USER_LINES)
+            }
+            Happening::Refused(RefusalReason::Incomplete | RefusalReason::UnknownUser) => {
+                count_one(&mut self.strangers, STRANGER_LINES)
+            }
+        }
     }
 }
 
@@ -230,19 +279,18 @@ impl ServerLog {
             first_port,
             open,
             entries: Vec::with_capacity(alloc, LINES)?,
-            count: 0,
+            counts: Counts::NONE,
             left_out: 0,
             period: Timer::new(now, Duration::from_secs(PERIOD)),
         })
     }
 
-    /// Adds an entry, unless the period has as many as it may have.
+    /// Adds an entry, unless the period has as many of its kind as it may have.
     fn add(&mut self, happening: Happening, sender: Sender) {
-        if self.count >= LINES {
+        if !self.counts.add(happening) {
             self.left_out = self.left_out.saturating_add(1);
             return;
         }
-        self.count += 1;
         let _ = self.entries.push(Entry {
             happening,
             sender,
@@ -334,7 +382,7 @@ impl ServerLog {
         if self.left_out > 0 {
             let _ = writeln!(err, "{} lines of the log left out", self.left_out);
         }
-        self.count = 0;
+        self.counts = Counts::NONE;
         self.left_out = 0;
     }
 
