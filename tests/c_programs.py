@@ -1,8 +1,9 @@
 """Runs the programs of examples/c, which C functions are compiled to, and compares each answer with that of a model of the rules.
 
 The programs that one clang made are kept in examples/c/compiled, and each answers seeded events as its C text says: the shipped
-rules, those with fewer peers, and those with another address for a peer. Where clang and LLVM's objcopy and readelf are there, each
-text is compiled at three levels for three versions of the instruction set, too, and what can't become a program is refused by name.
+rules, those with fewer peers or without Allocate requests, and those with another address for a peer. Where clang and LLVM's objcopy
+and readelf are there, each text is compiled at three levels for three versions of the instruction set, too, and what can't become a
+program is refused by name.
 """
 
 import collections
@@ -11,6 +12,7 @@ import os
 import pathlib
 import re
 import shutil
+import struct
 import subprocess
 import sys
 import tempfile
@@ -19,7 +21,7 @@ import relaying
 from private_peers import answered, octets, private_rows, with_peers
 from lib.program import PROGRAM, TOP, build, finish
 from relaying import IP6, SLOTS, USERS, compare, systematic, systematic6
-from lib.rules import DATA, XOR_PEER_ADDRESS, Rules, read
+from lib.rules import ALLOCATE, DATA, XOR_PEER_ADDRESS, Rules, read
 
 FOLDER = TOP / "examples" / "c"
 COMPILED = FOLDER / "compiled"
@@ -27,7 +29,7 @@ PAGE = TOP / "docs" / "C.md"
 # each text with the options that load its program, and the sides that it is for
 SIDES = {
     "client": ["--client"], "peer": ["--peer"], "deny_private": ["--client"], "media_only": ["--client"],
-    "public_to_internal": ["--client", "--peer"]}
+    "drain": ["--client"], "public_to_internal": ["--client", "--peer"]}
 LEVELS, VERSIONS = ["-O1", "-O2", "-Os"], ["v1", "v2", "v3"]
 PUBLIC, INTERNAL = bytes([203, 0, 113, 1]), bytes([192, 0, 2, 10])
 # how many events each program that is compiled here answers
@@ -58,6 +60,13 @@ class MediaOnly(Rules):
     def channel_data(self, client, data):
         answer = super().channel_data(client, data)
         return answer if answer is None or is_media(answer[3]) else None
+
+
+class Draining(Rules):
+    """The rules, where Allocate requests are discarded."""
+
+    def from_client(self, *given):
+        return None if given[-1][:2] == struct.pack(">H", ALLOCATE) else super().from_client(*given)
 
 
 def is_plain(data):
@@ -91,6 +100,7 @@ def rows():
         yield "deny_private", events, words
     for events, given in ((plain, {}), (both, {"ip6": IP6})):
         yield "media_only", answered(events, MediaOnly(USERS, slots=SLOTS, **given)), ip6 if given else []
+        yield "drain", answered(events, Draining(USERS, slots=SLOTS, **given)), ip6 if given else []
     nat = [(PUBLIC, 5000), (PUBLIC, 5001), (INTERNAL, 5000), (INTERNAL, 5001), (octets("8.8.8.8"), 5000)]
     for events, given in ((with_peers(nat, 4787), {}), (with_peers(nat, 5128, IP6), {"ip6": IP6})):
         yield "public_to_internal", answered(events, PublicToInternal(USERS, slots=SLOTS, **given)), ip6 if given else []

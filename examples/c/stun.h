@@ -8,7 +8,8 @@
 enum { COOKIE = 0x2112a442 };
 
 /* Types of messages and of attributes (RFC 8656, sections 17 and 18). */
-enum { SEND_INDICATION = 0x0016, DATA_INDICATION = 0x0017, XOR_PEER_ADDRESS = 0x0012, DATA_ATTRIBUTE = 0x0013 };
+enum { ALLOCATE_REQUEST = 0x0003, SEND_INDICATION = 0x0016, DATA_INDICATION = 0x0017 };
+enum { XOR_PEER_ADDRESS = 0x0012, DATA_ATTRIBUTE = 0x0013 };
 
 /* ChannelData: a number of 0x4000 to 0x7FFF and a length (RFC 8656, section 12.4). */
 struct channel_data {
