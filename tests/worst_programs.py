@@ -100,7 +100,7 @@ def linked(pointers, count):
 
 
 def wide_numbers(count):
-    """Returns the lines of a program whose forks add to numbers of a span that is too wide for signatures to tell them apart."""
+    """Returns the lines of a program whose forks add to numbers of the widest spans."""
     registers = (8, 7, 6, 5, 4, 3, 2, 0)
     lines = ["ldxdw r9, [r1+24]", "ldxdw r0, [r1+24]", "rsh r0, 6"]
     lines += [f"mov r{register}, r0" for register in registers[:-1]] + ["mov r1, 0"]
@@ -145,8 +145,6 @@ def full_marks(count):
 def longest_programs():
     """Returns the texts of programs that are known to take longer than others, so that a server gives them up."""
     return {
-        "64 pointers, of which 13 are linked otherwise": linked(64, 13),
-        "wide numbers, 15 forks": wide_numbers(15),
         "products of primes in two registers, 15 forks": products(2, 15),
     }
 
@@ -180,8 +178,8 @@ def known_programs():
         "64 pointers, 32 states, and 4,000 jumps": HEAD + zero[:1] + kept + forks(sums(5, 0)) + chain(LONG - 100) + TAIL,
         "64 pointers, of which each target stores one": HEAD + zero + kept + jumps + forks(sums(6, 9)) + stored + TAIL,
         "16 pointers, of which 10 are linked otherwise": linked(16, 10),
-        "64 pointers, of which 9 are linked otherwise": linked(64, 9),
-        "wide numbers": wide_numbers(13),
+        "64 pointers, of which 13 are linked otherwise": linked(64, 13),
+        "wide numbers": wide_numbers(15),
         "products of primes in a register": products(1, 13),
         "products of primes in two registers": products(2, 13),
         "lengths from other places": reaching(13),

@@ -5,22 +5,11 @@ use Rattle.std.proofs.lemmas.Bool.{cases_lt, both_ways, false_from_ne_true}
 use Rattle.std.proofs.lemmas.List.{get_or-set_same, get_or-set_other, get_or_default, length-set}
 use Rattle.absstate.specs.Covers.{have_one_anchor, is_place, stands_for, share_alike}
 use Rattle.absstate.specs.laws.Step.Covering.{linked_at}
+use Rattle.absstate.specs.laws.Step.Links.{shared_back, shared_on}
 use Rattle.absstate.specs.laws.Step.MemoryValues.{both_true}
 use Rattle.absstate.specs.declared.abstract_state.Anchor.TheVariants.{First, Made}
 use Rattle.absstate.specs.declared.abstract_state.AbstractValue.{AbstractValue}
 use Rattle.absstate.specs.declared.abstract_state.AbstractValue.TheVariants.{Nothing, Data}
-
--- ---- two values at one anchor
-
-shared_back : {D : Type 0} (v w : AbstractValue D) → have_one_anchor v w ≡ true → have_one_anchor w v ≡ true
-shared_back (Data First k) (Data First l) e = refl
-shared_back (Data (Made id low high proved) k) (Data (Made other low' high' proved') l) e = eq-eqb other id (sym (eqb-true id other e))
-shared_back v w e = absurd cc
-
-shared_on : {D : Type 0} (v w x : AbstractValue D) → have_one_anchor v w ≡ true → have_one_anchor w x ≡ true → have_one_anchor v x ≡ true
-shared_on (Data First k) (Data First l) (Data First m) e f = refl
-shared_on (Data (Made i low high proved) k) (Data (Made j low' high' proved') l) (Data (Made n low'' high'' proved'') m) e f = eq-eqb i n (eqb-true i j e ∙ eqb-true j n f)
-shared_on v w x e f = absurd cc
 
 no_place : {D : Type 0} (v w : AbstractValue D) → is_place v ≡ false → have_one_anchor v w ≡ false
 no_place (Data x k) w e = absurd cc

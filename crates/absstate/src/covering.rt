@@ -104,7 +104,7 @@ pub(crate) fn shared<D: Copy>(a: AbstractValue<D>, b: AbstractValue<D>) -> bool
 }
 
 /// Returns whether a value is a place of the datagram.
-fn is_place<D: Copy>(value: AbstractValue<D>) -> bool
+pub(crate) fn is_place<D: Copy>(value: AbstractValue<D>) -> bool
     ensures { result ≡ is_place value }
 {
     match value {

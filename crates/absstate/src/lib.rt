@@ -8,6 +8,7 @@ mod calling;
 mod change;
 mod chunk;
 mod covering;
+mod links;
 mod loading;
 mod mark_words;
 mod memory;

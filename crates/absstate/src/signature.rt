@@ -6,24 +6,26 @@ ghost use Rattle.absstate.specs.Signatures.{hashed_bit, number_bit, value_bit, v
 
 use crate::abstract_state::{AbsState, AbstractValue, REGISTERS};
 use crate::covering::registers_of;
+use crate::links::{Links, links_of};
 use crate::mark_words::MarkWords;
 use interval::{Bounds, Domain};
 
 /// What is compared of states first: words that have a bit for each register that is known exactly,
-/// for each such group, and for each mark; how precisely all values are known together; and the
-/// bounds of all numbers, hashed.
+/// for each such group, and for each mark; how precisely all values are known together; the bounds of
+/// all numbers, hashed; and which places are at the anchor of an earlier one.
 /// See docs/DESIGN.md, "What distinguishes a kept state".
 #[derive(Clone, Copy, Debug, PartialEq, Eq)]
 pub struct StateSignature {
     registers: u64,
     groups: u64,
     marks: u64,
-    precisions: u64,
     bounds: u64,
+    precisions: u128,
+    links: Links,
 }
 
-/// The precision of a value that is known exactly. A number of which as many words may be in a span has none.
-const EXACT: u64 = 1 << 57;
+/// The precision of a value that is known exactly: as many words as there are.
+const EXACT: u128 = 1 << 64;
 
 /// Returns one bit of 64, by a hash of an index, a kind and a number.
 fn hashed_bit(index: usize, kind: u64, number: u64) -> u64
@@ -93,25 +95,25 @@ fn mark_bits(index: usize, words: &[u64]) -> u64
 }
 
 /// Returns how precisely a value is known.
-fn precision<D: Domain>(value: AbstractValue<D>) -> u64
+fn precision<D: Domain>(value: AbstractValue<D>) -> u128
     ensures value { result ≡ precision D.ops value }
-    ensures small { result ≤ 2 ^ 57 }
+    ensures small { result ≤ 2 ^ 64 }
 {
     match value {
         AbstractValue::Nothing => 0,
         AbstractValue::Scalar(number) => {
             let Bounds { lo, hi } = number.bounds();
-            EXACT.saturating_sub(hi.saturating_sub(lo))
+            EXACT - u128::from(hi.saturating_sub(lo))
         }
         _ => EXACT,
     }
 }
 
 /// Returns how precisely values are known, as the sum.
-fn precisions<D: Domain>(values: &[AbstractValue<D>]) -> u64
+fn precisions<D: Domain>(values: &[AbstractValue<D>]) -> u128
     requires { length values.now ≤ 75 }
     ensures value { result ≡ precisions D.ops values.now }
-    ensures small { result ≤ length values.now * 2 ^ 57 }
+    ensures small { result ≤ length values.now * 2 ^ 64 }
 {
     match values {
         [] => 0,
@@ -119,16 +121,12 @@ fn precisions<D: Domain>(values: &[AbstractValue<D>]) -> u64
     }
 }
 
-/// Returns both bounds of a number that is known to some precision, hashed.
+/// Returns both bounds of a number, hashed.
 fn hashed_bounds(bounds: Bounds) -> u64
     ensures { result ≡ hashed_bounds bounds }
 {
     let Bounds { lo, hi } = bounds;
-    if hi.saturating_sub(lo) < EXACT {
-        lo.wrapping_add(hi.wrapping_mul(13_787_848_793_156_543_929))
-    } else {
-        0
-    }
+    lo.wrapping_add(hi.wrapping_mul(13_787_848_793_156_543_929))
 }
 
 /// Returns the bounds of a number among values, hashed; 0 for any other value.
@@ -159,7 +157,7 @@ impl StateSignature {
     ghost use Rattle.absstate.specs.Signatures.{lies_within};
 
     /// Returns whether all bits of this signature are bits of another one, of a state that is known more precisely or whose
-    /// numbers have the same bounds.
+    /// numbers have the same bounds, and that has more links or the same.
     pub fn lies_within(self, other: StateSignature) -> bool
         ensures { result ≡ lies_within self other }
     {
@@ -167,6 +165,7 @@ impl StateSignature {
             && self.groups & other.groups == self.groups
             && self.marks & other.marks == self.marks
             && (self.precisions < other.precisions || self.bounds == other.bounds)
+            && self.links.lie_within(other.links)
     }
 }
 
@@ -186,8 +185,9 @@ impl<D: Domain> AbsState<D> {
             registers: value_bits(0, registers),
             groups: value_bits(REGISTERS, groups),
             marks: mark_bits(0, words),
-            precisions: precisions(values),
             bounds: bounds_hashes(values),
+            precisions: precisions(values),
+            links: links_of(values),
         }
     }
 }

@@ -20,4 +20,5 @@ pub mod Plainness
 pub mod Covering
 pub mod Words
 pub mod Packing
+pub mod Links
 pub mod Signing

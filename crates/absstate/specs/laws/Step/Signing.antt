@@ -9,8 +9,9 @@ use Rattle.interval.specs.Domains.{Operations, AreSound, span}
 use Rattle.interval.specs.declared.domain.Bounds.{Bounds}
 use Rattle.absstate.specs.Covers.{covers_anchor, covers_value, covers_values, same_int, covers}
 use Rattle.absstate.specs.MarkWords.{words_of, are_within}
-use Rattle.absstate.specs.Signatures.{hashed_bit, number_bit, value_bit, value_bits, mark_bits, precision, precisions, hashed_bounds, bounds_hash, bounds_hashes, state_signature, lies_within}
+use Rattle.absstate.specs.Signatures.{hashed_bit, number_bit, value_bit, value_bits, mark_bits, precision, precisions, hashed_bounds, bounds_hash, bounds_hashes, lie_within, bits_within, state_signature, lies_within}
 use Rattle.absstate.specs.laws.Step.Covering.{int_same}
+use Rattle.absstate.specs.laws.Step.Links.{links_within, linked_alike}
 use Rattle.absstate.specs.laws.Step.MemoryValues.{first_of_and, rest_of_and, both_true}
 use Rattle.absstate.specs.laws.Step.Packing.{covered_front, covered_rest, values_of}
 use Rattle.absstate.specs.laws.Step.Words.{IsWithin, within_times, within_mod, within_or, nothing_within, same_number, covered_within}
@@ -63,23 +64,23 @@ same_as_one x y (inr same) one = same
 abbrev IsRanked : ℕ → ℕ → ℕ → ℕ → Type 0
 IsRanked known hash other other_hash = (known < other) ⊎ ((known ≡ other) × (hash ≡ other_hash))
 
-no_hash : (x : Bounds) → 2 ^ 57 ≤ span x → hashed_bounds x ≡ 0
-no_hash x wide = ap (λ (test : Bool). if test then (x.lo + x.hi * 13787848793156543929 % 2 ^ 64) % 2 ^ 64 else 0) (le-ltb (span x) (2 ^ 57) wide)
+no_hash : (x : Bounds) → 2 ^ 64 ≤ span x → hashed_bounds x ≡ 0
+no_hash x wide = ap (λ (test : Bool). if test then (x.lo + x.hi * 13787848793156543929 % 2 ^ 64) % 2 ^ 64 else 0) (le-ltb (span x) (2 ^ 64) wide)
 
-number_ranked : (x y : Bounds) → (span y < span x) ⊎ (y ≡ x) → IsRanked (2 ^ 57 - span x) (hashed_bounds x) (2 ^ 57 - span y) (hashed_bounds y)
-number_ranked x y (inr same) = inr (ap (λ (b : Bounds). 2 ^ 57 - span b) (sym same), ap hashed_bounds (sym same))
+number_ranked : (x y : Bounds) → (span y < span x) ⊎ (y ≡ x) → IsRanked (2 ^ 64 - span x) (hashed_bounds x) (2 ^ 64 - span y) (hashed_bounds y)
+number_ranked x y (inr same) = inr (ap (λ (b : Bounds). 2 ^ 64 - span b) (sym same), ap hashed_bounds (sym same))
 number_ranked x y (inl nearer) =
     ⊎_elim (λ near. inl (omega (arith, nearer, near)))
     (λ wide.
-    let wider : 2 ^ 57 ≤ span x = omega (arith, nearer, wide) in
+    let wider : 2 ^ 64 ≤ span x = omega (arith, nearer, wide) in
     inr (omega (arith, wide, wider), no_hash x wider ∙ sym (no_hash y wide)))
-    (cases_lt (span y) (2 ^ 57))
+    (cases_lt (span y) (2 ^ 64))
 
 -- of nothing less is known than of any value, whose bounds have no hash where nothing is known of it
 nothing_ranked : (known hash : ℕ) → (known ≡ 0 → hash ≡ 0) → IsRanked 0 0 known hash
 nothing_ranked known hash none = ⊎_elim inl (λ zero_known. let is : known ≡ 0 = omega (arith, zero_known) in inr (sym is, sym (none is))) (cases_lt 0 known)
 
-number_without_hash : (x : Bounds) → 2 ^ 57 - span x ≡ 0 → hashed_bounds x ≡ 0
+number_without_hash : (x : Bounds) → 2 ^ 64 - span x ≡ 0 → hashed_bounds x ≡ 0
 number_without_hash x none = no_hash x (omega (arith, none))
 
 module _ {D : Type 0} (ops : Operations D) where
@@ -106,14 +107,19 @@ module _ {D : Type 0} (ops : Operations D) where
   both_ranked v u vs us (inr first) (inr rest) = inr (omega (arith, first.0, rest.0), ap₂ (λ (m n : ℕ). (m + n * 11400714819323198485 % 2 ^ 64) % 2 ^ 64) first.1 rest.1)
 
 -- a signature is within another one by its parts
-within_by_parts : (s t : StateSignature) → IsWithin s.registers t.registers → IsWithin s.groups t.groups → IsWithin s.marks t.marks → IsRanked s.precisions s.bounds t.precisions t.bounds → lies_within s t ≡ true
-within_by_parts s t registers groups marks ranked =
+bits_by_parts : (s t : StateSignature) → IsWithin s.registers t.registers → IsWithin s.groups t.groups → IsWithin s.marks t.marks → bits_within s t ≡ true
+bits_by_parts s t registers groups marks =
     both_true (bit_and s.registers t.registers == s.registers) _ (same_number (bit_and s.registers t.registers) s.registers registers)
     (both_true (bit_and s.groups t.groups == s.groups) _ (same_number (bit_and s.groups t.groups) s.groups groups)
-    (both_true (bit_and s.marks t.marks == s.marks) _ (same_number (bit_and s.marks t.marks) s.marks marks)
+    (same_number (bit_and s.marks t.marks) s.marks marks))
+
+within_by_parts : (s t : StateSignature) → bits_within s t ≡ true → IsRanked s.precisions s.bounds t.precisions t.bounds → lie_within s.links t.links ≡ true → lies_within s t ≡ true
+within_by_parts s t bits ranked links =
+    both_true (bits_within s t) _ bits
+    (both_true _ (lie_within s.links t.links)
     (⊎_elim (λ less. or_left (nat_lt s.precisions t.precisions) (s.bounds == t.bounds) (lt-ltb s.precisions t.precisions less))
     (λ same. or_right (nat_lt s.precisions t.precisions) (s.bounds == t.bounds) (eq-eqb s.bounds t.bounds same.1))
-    ranked)))
+    ranked) links)
 
 module _ {D : Type 0} (ops : Operations D) (Member : D → ℕ → Type 0) (sound : AreSound ops Member) (a b : AbsState D) where
   value_within : (index : ℕ) (v u : AbstractValue D) → covers_value ops a b v u ≡ true → IsWithin (value_bit ops index v) (value_bit ops index u)
@@ -155,6 +161,8 @@ module _ {D : Type 0} (ops : Operations D) (Member : D → ℕ → Type 0) (soun
   covered_signature e =
       let values = values_of ops a b e in
       within_by_parts (state_signature ops a) (state_signature ops b)
+      (bits_by_parts (state_signature ops a) (state_signature ops b)
       (values_within 0 (take REGISTERS a.registers) (take REGISTERS b.registers) (covered_front ops a b REGISTERS a.registers b.registers values))
       (values_within REGISTERS (drop REGISTERS a.registers) (drop REGISTERS b.registers) (covered_rest ops a b REGISTERS a.registers b.registers values))
-      (marks_within 0 (words_of a.marks.cells) (words_of b.marks.cells) refl (covered_within ops a b e)) (values_ranked a.registers b.registers values)
+      (marks_within 0 (words_of a.marks.cells) (words_of b.marks.cells) refl (covered_within ops a b e)))
+      (values_ranked a.registers b.registers values) (links_within a.registers b.registers (linked_alike ops a b e))
