@@ -35,7 +35,8 @@ CLIENTS, DATAGRAMS, BATCH = 10, 200_000, 40
 # programs whose verification takes seconds, the round trips that are made meanwhile, and how long one may take, in seconds: a
 # server verifies for a quarter of a millisecond between two turns, and other processes take their time too. A machine that
 # stops for a moment makes a round trip late once; a server that is held up makes one late at each attempt.
-SLOW = "sums in the last register", "marks with a chain", "64 pointers, 32 states, and 4,000 jumps", "wide numbers, 15 forks"
+SLOW = ("sums in the last register", "marks with a chain", "64 pointers, 32 states, and 4,000 jumps",
+        "products of primes in two registers, 15 forks")
 SLOWEST = "pointers on the stack"
 ROUND_TRIPS, MOST_TRIPS, LATE, ATTEMPTS = 10_000, 1_000_000, 0.1, 3
 # The receives that fail, counted from the start. With two slots the first three are one at each socket, where nothing

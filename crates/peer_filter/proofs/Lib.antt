@@ -1,5 +1,6 @@
 pub mod Deciding
 pub mod DefaultRules
+mod Families
 pub mod Decisions
 pub mod Shifts
 pub mod Texts

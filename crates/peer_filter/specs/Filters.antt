@@ -1,11 +1,14 @@
 -- Meaning. Which rule decides on an address, and which peers a filter allows.
-use Rattle.std.specs.Prelude.{◌≡◌, ◌<◌, ◌≤◌, Bool, true, false, not, ◌&&◌, nat_eq, nat_lt, List, [], ◌∷◌, ◌++◌, length, Option, Some, None, Result, Ok, Err, if◌then◌else◌, ⊤}
+use Rattle.std.specs.Prelude.{◌≡◌, ◌<◌, ◌≤◌, Bool, true, false, not, ◌&&◌, nat_eq, nat_lt, List, [], ◌∷◌, ◌++◌, length, Option, Some, None, Result, Ok, Err, if◌then◌else◌, ⊤, filter}
 use Rattle.std.specs.List.{list_any}
 use Rattle.addresses.specs.AddressOrder.{is_same_address}
 use Rattle.addresses.specs.Addresses.{port_of}
 use Rattle.addresses.specs.declared.address.Addr.{Addr}
-use Rattle.peer_filter.specs.Networks.{network_contains, prefix_bits}
-use Rattle.peer_filter.specs.declared.defaults.TheConstants.{ALWAYS_DENIED, LOOPBACK_V4, LOOPBACK_V6}
+use Rattle.addresses.specs.declared.address.Addr.TheVariants.{V4, V6}
+use Rattle.addresses.specs.declared.address.Family.{Family}
+use Rattle.addresses.specs.declared.address.Family.TheVariants.{Ipv4, Ipv6}
+use Rattle.peer_filter.specs.Networks.{is_network_of, network_contains, prefix_bits}
+use Rattle.peer_filter.specs.declared.defaults.TheConstants.{ALLOWED_LOOPBACK_V6, ALWAYS_DENIED, LOOPBACK_V4, LOOPBACK_V6}
 use Rattle.peer_filter.specs.declared.filter.FilterError.{FilterError}
 use Rattle.peer_filter.specs.declared.filter.FilterError.TheVariants.{Rules, Endpoints}
 use Rattle.peer_filter.specs.declared.filter.TheConstants.{MAX_RULES, MAX_ENDPOINTS}
@@ -71,24 +74,38 @@ IsDecision rules peer None = EachCovering peer (λ _. ⊥) rules
 
 -- ---- filters
 
--- the rules, and the endpoints of the server
+-- the rules for the addresses of each family, and the endpoints of the server
 pub record Filter : Type 0 where
-  pub rules : List Rule
+  pub ipv4 : List Rule
+  pub ipv6 : List Rule
   pub endpoints : List ServerEndpoint
+
+-- whether a rule is for the addresses of a family
+abbrev pub is_for : Family → Rule → Bool
+is_for family rule = is_network_of family rule.network
+
+-- the rules for the addresses of a peer's family
+abbrev pub rules_for : Addr → Filter → List Rule
+rules_for (V4 ip port) f = f.ipv4
+rules_for (V6 ip port) f = f.ipv6
 
 -- nothing is sent to port 0, to an endpoint of the server, or to an address that is denied
 abbrev pub allows : Filter → Addr → Bool
-allows filter peer = not (nat_eq (port_of peer) 0)
-    && (not (list_any (is_at peer) filter.endpoints) && is_allowed_by (deciding_rule filter.rules peer))
+allows f peer = not (nat_eq (port_of peer) 0)
+    && (not (list_any (is_at peer) f.endpoints) && is_allowed_by (deciding_rule (rules_for peer f) peer))
 
 -- the rules that hold without options
 abbrev pub default_rules : Loopback → List Rule
 default_rules loopback = ALWAYS_DENIED
-    ++ (if loopback.ipv4 then [] else LOOPBACK_V4 ∷ []) ++ (if loopback.ipv6 then [] else LOOPBACK_V6 ∷ [])
+    ++ (if loopback.ipv4 then [] else LOOPBACK_V4 ∷ []) ++ (if loopback.ipv6 then ALLOWED_LOOPBACK_V6 else LOOPBACK_V6) ∷ []
+
+-- the filter of some rules: of each family those for its addresses, in their order
+abbrev pub filter_of : List ServerEndpoint → List Rule → Filter
+filter_of endpoints rules = record { ipv4 = filter (is_for Ipv4) rules; ipv6 = filter (is_for Ipv6) rules; endpoints = endpoints }
 
 -- the filter that is made, or the first limit that is passed
 abbrev pub IsMade : Loopback → List ServerEndpoint → List Rule → Result Filter FilterError → Type 0
-IsMade loopback endpoints rules (Ok filter) = (filter ≡ record { rules = default_rules loopback ++ rules; endpoints = endpoints })
+IsMade loopback endpoints rules (Ok f) = (f ≡ filter_of endpoints (default_rules loopback ++ rules))
     × ((length rules ≤ MAX_RULES) × (length endpoints ≤ MAX_ENDPOINTS))
 IsMade loopback endpoints rules (Err Rules) = MAX_RULES < length rules
 IsMade loopback endpoints rules (Err Endpoints) = (length rules ≤ MAX_RULES) × (MAX_ENDPOINTS < length endpoints)

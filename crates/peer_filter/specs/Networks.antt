@@ -9,6 +9,8 @@ use Rattle.std.specs.declared.net.ipv4_addr.Ipv4Addr.{Ipv4Addr}
 use Rattle.std.specs.declared.net.ipv6_addr.Ipv6Addr.{Ipv6Addr}
 use Rattle.addresses.specs.declared.address.Addr.{Addr}
 use Rattle.addresses.specs.declared.address.Addr.TheVariants as addr
+use Rattle.addresses.specs.declared.address.Family.{Family}
+use Rattle.addresses.specs.declared.address.Family.TheVariants.{Ipv4, Ipv6}
 use Rattle.peer_filter.specs.declared.network.Network.{Network}
 use Rattle.peer_filter.specs.declared.network.Network.TheVariants.{V4, V6}
 use Rattle.peer_filter.specs.declared.network.NetworkError.{NetworkError}
@@ -29,6 +31,12 @@ network_contains (V4 address bits) (addr.V4 ip port) = prefix 32 bits address ==
 network_contains (V4 address bits) (addr.V6 ip port) = false
 network_contains (V6 address bits) (addr.V4 ip port) = false
 network_contains (V6 address bits) (addr.V6 ip port) = prefix 128 bits address == prefix 128 bits (ip_number (addr.V6 ip port))
+
+-- whether the addresses of a network are of a family
+abbrev pub is_network_of : Family → Network → Bool
+is_network_of Ipv4 (V4 address bits) = true
+is_network_of Ipv6 (V6 address bits) = true
+is_network_of family network = false
 
 -- the bits of an address of the family, the network's address, and the bits of its prefix
 abbrev pub width_of : Network → ℕ

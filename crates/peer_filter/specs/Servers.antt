@@ -1,5 +1,5 @@
 -- Meaning. The filter of a server, by where it listens and from where it relays.
-use Rattle.std.specs.Prelude.{◌≡◌, ◌↔◌, ◌⊎◌, ℕ, IsTrue, List, [], ◌∷◌, Option, Some, None, Result}
+use Rattle.std.specs.Prelude.{◌≡◌, ◌↔◌, ◌⊎◌, IsTrue, List, [], ◌∷◌, Option, Some, None, Result}
 use Rattle.std.specs.Net.Addr.{ipv4_octets, IsUnspecifiedV4, IsLoopbackV4, IsLoopbackV6}
 use Rattle.std.specs.declared.net.ipv4_addr.Ipv4Addr.{Ipv4Addr}
 use Rattle.std.specs.declared.net.ipv6_addr.Ipv6Addr.{Ipv6Addr}

@@ -1,15 +1,15 @@
 //! The filter of a server.
 
-ghost use Rattle.std.specs.Prelude.{◌≡◌, ◌≤◌, List, [], ◌∷◌, ◌++◌, length, nat_le, if◌then◌else◌};
+ghost use Rattle.std.specs.Prelude.{◌≡◌, ◌≤◌, List, [], ◌∷◌, ◌++◌, length, filter, nat_le, if◌then◌else◌};
 ghost use Rattle.std.specs.List.{list_any};
 ghost use Rattle.peer_filter.specs.Networks.{prefix_bits};
-ghost use Rattle.peer_filter.specs.Filters.{is_at, deciding_rule, is_allowed_by, default_rules};
+ghost use Rattle.peer_filter.specs.Filters.{is_at, is_for, deciding_rule, is_allowed_by, default_rules};
 ghost use Rattle.peer_filter.specs.declared.rule.Rule.{Rule};
 
-use crate::defaults::{ALWAYS_DENIED, LOOPBACK_V4, LOOPBACK_V6};
+use crate::defaults::{ALLOWED_LOOPBACK_V6, ALWAYS_DENIED, LOOPBACK_V4, LOOPBACK_V6};
 use crate::rule::{Loopback, Rule, ServerEndpoint};
 use arrayvec::ArrayVec;
-use attributes::Addr;
+use attributes::{Addr, Family};
 use std::marker::Model;
 use thiserror::Error;
 
@@ -20,7 +20,7 @@ pub const MAX_RULES: usize = 64;
 pub const MAX_ENDPOINTS: usize = 8;
 
 /// The most rules that hold without options.
-const MAX_DEFAULTS: usize = 9;
+const MAX_DEFAULTS: usize = 14;
 
 /// The most rules of a filter.
 const MAX_ALL_RULES: usize = MAX_DEFAULTS + MAX_RULES;
@@ -36,10 +36,12 @@ pub enum FilterError {
     Endpoints,
 }
 
-/// Decides to which peers a server sends. It allocates nothing.
+/// Decides to which peers a server sends. It allocates nothing. The rules of each family are apart, so that a decision
+/// looks at those of one.
 #[derive(Drop)]
 pub struct PeerFilter {
-    rules: ArrayVec<Rule, MAX_ALL_RULES>,
+    ipv4: ArrayVec<Rule, MAX_ALL_RULES>,
+    ipv6: ArrayVec<Rule, MAX_ALL_RULES>,
     endpoints: ArrayVec<ServerEndpoint, MAX_ENDPOINTS>,
 }
 
@@ -48,7 +50,7 @@ impl Model for PeerFilter {
 
     ghost Value = { Filter };
 
-    ghost view = { λ f. record { rules = f.rules.items; endpoints = f.endpoints.items } };
+    ghost view = { λ f. record { ipv4 = f.ipv4.items; ipv6 = f.ipv6.items; endpoints = f.endpoints.items } };
 }
 
 /// Returns the one of two rules with the longer prefix, the later one where they have as many bits.
@@ -108,17 +110,33 @@ fn is_own(endpoints: &[ServerEndpoint], peer: &Addr) -> bool
 /// Returns the rules that hold without options.
 fn default_rules(loopback: Loopback) -> ArrayVec<Rule, MAX_ALL_RULES>
     ensures rules { result.items ≡ default_rules loopback }
-    ensures few { length result.items ≤ 9 }
+    ensures few { length result.items ≤ MAX_DEFAULTS }
 {
     let mut rules = ArrayVec::new();
     let _ = rules.try_extend_from_slice(&ALWAYS_DENIED);
     if !loopback.ipv4 {
         rules.push(LOOPBACK_V4);
     }
-    if !loopback.ipv6 {
-        rules.push(LOOPBACK_V6);
-    }
+    rules.push(if loopback.ipv6 {
+        ALLOWED_LOOPBACK_V6
+    } else {
+        LOOPBACK_V6
+    });
     rules
+}
+
+/// Returns those of some rules whose networks are of a family.
+fn of_family(rules: &[Rule], family: Family) -> ArrayVec<Rule, MAX_ALL_RULES>
+    requires { length rules.now ≤ MAX_ALL_RULES }
+    ensures { result.items ≡ filter (is_for family) rules.now }
+{
+    let mut own = ArrayVec::new();
+    for rule in rules {
+        if rule.network.is_of_family(family) {
+            own.push(*rule);
+        }
+    }
+    own
 }
 
 impl PeerFilter {
@@ -147,7 +165,8 @@ impl PeerFilter {
             return Err(FilterError::Endpoints);
         }
         Ok(PeerFilter {
-            rules: all,
+            ipv4: of_family(&all, Family::Ipv4),
+            ipv6: of_family(&all, Family::Ipv6),
             endpoints: own,
         })
     }
@@ -158,8 +177,10 @@ impl PeerFilter {
     pub fn allows(&self, peer: &Addr) -> bool
         ensures { result ≡ allows self.now peer.now }
     {
-        peer.port() != 0
-            && !is_own(self.endpoints.as_slice(), peer)
-            && is_allowed(self.rules.as_slice(), peer)
+        let rules = match peer {
+            Addr::V4 { .. } => self.ipv4.as_slice(),
+            Addr::V6 { .. } => self.ipv6.as_slice(),
+        };
+        peer.port() != 0 && !is_own(self.endpoints.as_slice(), peer) && is_allowed(rules, peer)
     }
 }

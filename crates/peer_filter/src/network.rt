@@ -6,7 +6,7 @@ ghost use Rattle.addresses.specs.declared.address.Addr.TheVariants as addresses;
 ghost use Rattle.peer_filter.specs.declared.network.Network.TheVariants as networks;
 
 use crate::text::{bits_in, ipv4_in, ipv6_in};
-use attributes::Addr;
+use attributes::{Addr, Family};
 use thiserror::Error;
 
 /// A network: a family, and the addresses whose first `bits` bits are those of `address` (RFC 4632, section 3.1; RFC
@@ -113,7 +113,7 @@ fn number_v6(ip: &[u8; 16]) -> u128
 
 impl Network {
     ghost use Rattle.std.specs.Prelude.{◌≡◌};
-    ghost use Rattle.peer_filter.specs.Networks.{network_contains, prefix_bits, IsParsed};
+    ghost use Rattle.peer_filter.specs.Networks.{is_network_of, network_contains, prefix_bits, IsParsed};
 
     /// Parses a network, as `192.0.2.0/24` or `2001:db8::/32`: an address, a slash and the number of bits, in one to three
     /// decimal digits without a sign. Leading zeros count as digits: `/08` is `/8`, and `/0008` is refused.
@@ -145,6 +145,16 @@ impl Network {
     {
         match self {
             Network::V4 { bits, .. } | Network::V6 { bits, .. } => *bits,
+        }
+    }
+
+    /// Returns whether the addresses of the network are of a family.
+    pub(crate) fn is_of_family(&self, family: Family) -> bool
+        ensures { result ≡ is_network_of family self.now }
+    {
+        match (self, family) {
+            (Network::V4 { .. }, Family::Ipv4) | (Network::V6 { .. }, Family::Ipv6) => true,
+            _ => false,
         }
     }
 
