@@ -4,7 +4,11 @@
 # CLANG, OBJCOPY and READELF name LLVM's programs, RELAYD the relay's, and CFLAGS further options of clang, as -O1 or -mcpu=v3.
 set -euo pipefail
 here=$(cd "$(dirname "$0")" && pwd)
-clang=${CLANG:-clang} objcopy=${OBJCOPY:-llvm-objcopy} readelf=${READELF:-llvm-readelf} relayd=${RELAYD:-$here/../../relayd}
+clang=${CLANG:-clang} objcopy=${OBJCOPY:-llvm-objcopy} readelf=${READELF:-llvm-readelf}
+# the one of the repository, or, where a package has these examples, the one that is installed
+relayd=$here/../../relayd
+[ -x "$relayd" ] || relayd=relayd
+relayd=${RELAYD:-$relayd}
 
 fail() {
   echo "$1" >&2
