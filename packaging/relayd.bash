@@ -1,0 +1,71 @@
+# Completion of the command line of relayd in bash. packaging/manual.py makes this file of what relayd's help prints.
+# shellcheck shell=bash
+_relayd() {
+  local word=${COMP_WORDS[COMP_CWORD]} before=${COMP_WORDS[COMP_CWORD-1]}
+  local commands="assemble order disassemble verify explain trace replay serve help"
+  # the options, those whose value is a file, those with another value, and whether the arguments are files
+  local options="--help --version" files="" values="" arguments=""
+  case ${COMP_WORDS[1]} in
+  assemble)
+    options="--help"
+    arguments="files"
+    ;;
+  order)
+    options="--help"
+    arguments="files"
+    ;;
+  disassemble)
+    options="--slots --help"
+    arguments="files"
+    ;;
+  verify)
+    options="--help"
+    arguments="files"
+    ;;
+  explain)
+    options="--slot --help"
+    values="--slot"
+    arguments="files"
+    ;;
+  trace)
+    options="--data --help"
+    values="--data"
+    arguments="files"
+    ;;
+  replay)
+    options="--realm --user --users --secret --slots --relay-ip --relay-ip6 --first-port --client --peer --same-as --nonce \
+      --why --confine --help"
+    files="--users --secret --client --peer"
+    values="--realm --user --slots --relay-ip --relay-ip6 --first-port --same-as --nonce"
+    arguments="files"
+    ;;
+  serve)
+    options="--port --listen --listen6 --buffer --reuse-port --deny --allow --unconfined --rounds --nonce-lifetime --stats \
+      --metrics --record --record-limit --log --realm --user --users --secret --slots --relay-ip --relay-ip6 \
+      --first-port --client --peer --same-as --help"
+    files="--metrics --record --users --secret --client --peer"
+    values="--port --listen --listen6 --buffer --deny --allow --rounds --nonce-lifetime --stats --record-limit --realm \
+      --user --slots --relay-ip --relay-ip6 --first-port --same-as"
+    ;;
+  esac
+  # bash takes --option=value apart at the sign
+  if [ "$word" = "=" ]; then
+    word=""
+  elif [ "$before" = "=" ]; then
+    before=${COMP_WORDS[COMP_CWORD-2]}
+  fi
+  COMPREPLY=()
+  if [[ $COMP_CWORD -eq 1 ]]; then
+    mapfile -t COMPREPLY < <(compgen -W "$commands $options" -- "$word")
+  elif [[ ${COMP_WORDS[1]} == help ]]; then
+    mapfile -t COMPREPLY < <(compgen -W "$commands" -- "$word")
+  elif [[ " $values " == *" $before "* ]]; then
+    return
+  elif [[ " $files " == *" $before "* ]] || [[ $arguments && $word != -?* ]]; then
+    compopt -o filenames 2>/dev/null
+    mapfile -t COMPREPLY < <(compgen -f -- "$word")
+  else
+    mapfile -t COMPREPLY < <(compgen -W "$options" -- "$word")
+  fi
+}
+complete -F _relayd relayd
