@@ -60,10 +60,11 @@ def explained(path):
     return f"relayd explain {path} shows why\n"
 
 
-def run_parts(name, parts, *given, summary=""):
+def run_parts(name, parts, *given, summary="", program=None):
     """Runs the parts of a test, each of which yields what is wrong, prints that and a line that sums it up, and returns the exit
-    status. A part that ends by an error has failed."""
-    build()
+    status. A part that ends by an error has failed. The program is built first, unless the parts are over another one."""
+    if program is None:
+        build()
     failures = []
     for part in parts:
         try:
