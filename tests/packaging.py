@@ -138,6 +138,11 @@ def bytes_of_packages(program, folder):
         yield "two packages of the same program have other bytes"
 
 
+def has_git():
+    """Returns whether git knows the files of this repository."""
+    return shutil.which("git") and not subprocess.run(["git", "-C", TOP, "rev-parse"], capture_output=True, check=False).returncode
+
+
 def documents():
     """Returns the pages and examples that the package should have, as paths in the repository: those that git has."""
     return output("git", "-C", TOP, "ls-files", "README.md", "docs", "examples").split()
@@ -225,7 +230,7 @@ def main():
         parts += [bytes_of_packages, information, scripts, lint]
     else:
         PASSED_OVER.append("the package (no dpkg-deb)")
-    if shutil.which("dpkg-deb") and shutil.which("git") and (TOP / ".git").exists():
+    if shutil.which("dpkg-deb") and has_git():
         parts += [contents, files]
     else:
         PASSED_OVER.append("the files of the package (no dpkg-deb or no git)")
