@@ -1,8 +1,9 @@
 -- Interface. Signatures of states, by which most states that a state doesn't cover are ruled out.
-use Rattle.std.specs.Prelude.{ℕ, suc, ◌+◌, ◌-◌, ◌*◌, ◌/◌, ◌%◌, ◌^◌, ◌==◌, nat_lt, ◌&&◌, ◌||◌, Bool, List, [], ◌∷◌, take, drop, bit_and, bit_or, if◌then◌else◌, zero, Option, None, Some, position, slice_index_or}
+use Rattle.std.specs.Prelude.{ℕ, suc, ◌+◌, ◌-◌, ◌*◌, ◌/◌, ◌%◌, ◌^◌, ◌==◌, nat_lt, ◌&&◌, ◌||◌, Bool, ℤ, pos, int_le, List, [], ◌∷◌, take, drop, bit_and, bit_or, if◌then◌else◌, zero, Option, None, Some, position, slice_index_or}
 use Rattle.std.specs.Int.{w32, w64, rotate_left, cast_unsigned}
 use Rattle.interval.specs.Domains.{Operations, span}
 use Rattle.interval.specs.declared.domain.Bounds.{Bounds}
+use Rattle.absstate.specs.AbstractStates.{proved_from}
 use Rattle.absstate.specs.MarkWords.{words_of}
 use Rattle.absstate.specs.declared.abstract_state.AbstractValue.{AbstractValue}
 use Rattle.absstate.specs.declared.abstract_state.AbstractValue.TheVariants.{Nothing, Scalar, Ctx, Stack, Data, End}
@@ -20,19 +21,24 @@ hashed_bit index kind number = 2 ^ ((number + (8 * index + kind) * 1378784879315
 abbrev pub number_bit : ℕ → Bounds → ℕ
 number_bit index b = if b.lo == b.hi then hashed_bit index 0 b.lo else 0
 
--- the bit of a value; none where the value isn't known exactly. Where one value covers another, their anchors may differ
-abbrev pub value_bit : {D : Type 0} → Operations D → ℕ → AbstractValue D → ℕ
-value_bit ops index Nothing = 0
-value_bit ops index (Scalar x) = number_bit index (ops.bounds x)
-value_bit ops index Ctx = hashed_bit index 1 0
-value_bit ops index (Stack k) = hashed_bit index 2 (cast_unsigned w32 k)
-value_bit ops index (Data anchor k) = hashed_bit index 3 (cast_unsigned w32 k)
-value_bit ops index End = hashed_bit index 4 0
+-- a bit where the datagram is proved to reach past a place
+abbrev pub proved_bit : ℕ → ℤ → ℕ
+proved_bit index proved = if int_le proved (pos 0) then 0 else hashed_bit index 5 0
 
--- the bits of values from an index on
-abbrev pub value_bits : {D : Type 0} → Operations D → ℕ → List (AbstractValue D) → ℕ
-value_bits ops index [] = 0
-value_bits ops index (v ∷ values) = bit_or (value_bit ops index v) (value_bits ops (suc index) values)
+-- The bits of a value; none where the value isn't known exactly. Where one value covers another, their anchors may differ, and of
+-- the other one more may be proved.
+abbrev pub value_bit : {D : Type 0} → Operations D → ℕ → ℤ → AbstractValue D → ℕ
+value_bit ops index proved Nothing = 0
+value_bit ops index proved (Scalar x) = number_bit index (ops.bounds x)
+value_bit ops index proved Ctx = hashed_bit index 1 0
+value_bit ops index proved (Stack k) = hashed_bit index 2 (cast_unsigned w32 k)
+value_bit ops index proved (Data anchor k) = bit_or (hashed_bit index 3 (cast_unsigned w32 k)) (proved_bit index (proved_from anchor proved))
+value_bit ops index proved End = hashed_bit index 4 0
+
+-- the bits of values from an index on, of a state whose datagram is proved to reach so far
+abbrev pub value_bits : {D : Type 0} → Operations D → ℕ → ℤ → List (AbstractValue D) → ℕ
+value_bits ops index proved [] = 0
+value_bits ops index proved (v ∷ values) = bit_or (value_bit ops index proved v) (value_bits ops (suc index) proved values)
 
 -- the bits of words of marks, of which each is rotated by 9 bits more than the one before it
 abbrev pub mark_bits : ℕ → List ℕ → ℕ
@@ -99,8 +105,8 @@ lie_within links others = nat_lt links.count others.count || (links.firsts == ot
 
 abbrev pub state_signature : {D : Type 0} → Operations D → AbsState D → StateSignature
 state_signature ops a = record {
-  registers = value_bits ops 0 (take REGISTERS a.registers);
-  groups = value_bits ops REGISTERS (drop REGISTERS a.registers);
+  registers = value_bits ops 0 a.proved (take REGISTERS a.registers);
+  groups = value_bits ops REGISTERS a.proved (drop REGISTERS a.registers);
   marks = mark_bits 0 (words_of a.marks.cells);
   bounds = bounds_hashes ops a.registers;
   precisions = precisions ops a.registers;

@@ -1,26 +1,28 @@
 //! Signatures of states. A state covers only states whose signatures its own lies within, which a few words decide.
 
 ghost use Rattle.std.specs.Prelude.{◌≡◌, ◌≤◌, ◌+◌, ◌*◌, ◌^◌, length};
+ghost use Rattle.absstate.specs.AbstractStates.{proved_of};
 ghost use Rattle.absstate.specs.MarkWords.{words_of};
-ghost use Rattle.absstate.specs.Signatures.{hashed_bit, number_bit, value_bit, value_bits, mark_bits, precision, precisions, hashed_bounds, bounds_hash, bounds_hashes, state_signature, lies_within};
+ghost use Rattle.absstate.specs.Signatures.{hashed_bit, number_bit, proved_bit, value_bit, value_bits, mark_bits, precision, precisions, hashed_bounds, bounds_hash, bounds_hashes, state_signature, lies_within};
 
-use crate::abstract_state::{AbsState, AbstractValue, REGISTERS};
+use crate::abstract_state::{AbsState, AbstractValue, Anchor, REGISTERS};
 use crate::covering::registers_of;
 use crate::links::{Links, links_of};
 use crate::mark_words::MarkWords;
 use interval::{Bounds, Domain};
 
 /// What is compared of states first: words that have a bit for each register that is known exactly,
-/// for each such group, and for each mark; how precisely all values are known together; the bounds of
-/// all numbers, hashed; and which places are at the anchor of an earlier one.
+/// for each such group, and for each mark, and one for each place past whose anchor something is
+/// proved; how precisely all values are known together; the bounds of all numbers, hashed; and
+/// which places are at the anchor of an earlier one.
 /// See docs/DESIGN.md, "What distinguishes a kept state".
 #[derive(Clone, Copy, Debug, PartialEq, Eq)]
 pub struct StateSignature {
-    registers: u64,
-    groups: u64,
-    marks: u64,
-    bounds: u64,
-    precisions: u128,
+    pub(crate) registers: u64,
+    pub(crate) groups: u64,
+    pub(crate) marks: u64,
+    pub(crate) bounds: u64,
+    pub(crate) precisions: u128,
     links: Links,
 }
 
@@ -52,34 +54,47 @@ fn number_bit(index: usize, bounds: Bounds) -> u64
     }
 }
 
-/// Returns the bit of a value; none where the value isn't known exactly.
-fn value_bit<D: Domain>(index: usize, value: AbstractValue<D>) -> u64
+/// Returns a bit where the datagram is proved to reach past an anchor of a state.
+fn proved_bit<D: Domain>(index: usize, state: &AbsState<D>, anchor: Anchor) -> u64
     requires { index ≤ 75 }
-    ensures { result ≡ value_bit D.ops index value }
+    ensures { result ≡ proved_bit index (proved_of state.now anchor) }
+{
+    if state.proved_of(anchor) <= 0 {
+        0
+    } else {
+        hashed_bit(index, 5, 0)
+    }
+}
+
+/// Returns the bits of a value of a state; none where the value isn't known exactly.
+fn value_bit<D: Domain>(index: usize, state: &AbsState<D>, value: AbstractValue<D>) -> u64
+    requires { index ≤ 75 }
+    ensures { result ≡ value_bit D.ops index state.now.proved value }
 {
     match value {
         AbstractValue::Nothing => 0,
         AbstractValue::Scalar(number) => number_bit(index, number.bounds()),
         AbstractValue::Ctx => hashed_bit(index, 1, 0),
         AbstractValue::Stack(offset) => hashed_bit(index, 2, u64::from(offset.cast_unsigned())),
-        AbstractValue::Data { offset, .. } => hashed_bit(
-            index,
-            3,
-            u64::from(offset.cast_unsigned()),
-        ),
+        AbstractValue::Data { anchor, offset } => {
+            let place = hashed_bit(index, 3, u64::from(offset.cast_unsigned()));
+            place | proved_bit(index, state, anchor)
+        }
         AbstractValue::End => hashed_bit(index, 4, 0),
     }
 }
 
-/// Returns the bits of values from an index on.
-fn value_bits<D: Domain>(index: usize, values: &[AbstractValue<D>]) -> u64
+/// Returns the bits of values of a state, from an index on.
+fn value_bits<D: Domain>(index: usize, state: &AbsState<D>, values: &[AbstractValue<D>]) -> u64
     requires { index + length values.now ≤ 75 }
-    ensures { result ≡ value_bits D.ops index values.now }
+    ensures { result ≡ value_bits D.ops index state.now.proved values.now }
 {
     match values {
         [] => 0,
-        [AbstractValue::Nothing, values @ ..] => value_bits(index + 1, values),
-        [first, values @ ..] => value_bit(index, *first) | value_bits(index + 1, values),
+        [AbstractValue::Nothing, values @ ..] => value_bits(index + 1, state, values),
+        [first, values @ ..] => {
+            value_bit(index, state, *first) | value_bits(index + 1, state, values)
+        }
     }
 }
 
@@ -182,8 +197,8 @@ impl<D: Domain> AbsState<D> {
         let values = registers_of(self);
         let (registers, groups) = values.split_at(REGISTERS);
         StateSignature {
-            registers: value_bits(0, registers),
-            groups: value_bits(REGISTERS, groups),
+            registers: value_bits(0, self, registers),
+            groups: value_bits(REGISTERS, self, groups),
             marks: mark_bits(0, words),
             bounds: bounds_hashes(values),
             precisions: precisions(values),

@@ -1,13 +1,14 @@
 -- The slots at which states are kept.
-use Rattle.std.proofs.Common.{◌≡◌, ℕ, zero, suc, ◌+◌, ◌<◌, ◌≤◌, Bool, true, false, ◌&&◌, ◌||◌, List, [], ◌∷◌, ◌++◌, length, Option, Some, None, inl, inr, refl, sym, ap, ◌∙◌, subst, arith, rules}
+use Rattle.std.proofs.Common.{◌≡◌, ℕ, zero, suc, ◌+◌, ◌<◌, ◌≤◌, Bool, true, false, ◌&&◌, ◌||◌, List, [], ◌∷◌, ◌++◌, length, Option, Some, None, inl, inr, ⊎_elim, refl, sym, ap, ◌∙◌, subst, arith, rules}
 use Rattle.std.specs.Prelude.{◌==◌, ◌⊎◌, slice_index_or, slice_set, is_some}
-use Rattle.std.proofs.lemmas.Bool.{cases_lt, eqb-true, eqb-false}
+use Rattle.std.proofs.lemmas.Bool.{cases_lt, cases_eq, eqb-true, eqb-false, ne_eqb}
+use Rattle.std.proofs.lemmas.List.{get_or-set_same, get_or-set_other}
 use Rattle.insn.specs.Encoding.{slot_count}
 use Rattle.insn.specs.declared.instruction.Insn.{Insn}
 use Rattle.semantics.specs.laws.Slot.{fetch_past}
 use Rattle.absstate.specs.declared.abstract_state.AbsState.{AbsState}
 use Rattle.verifier.specs.Targets.{fetched_target, target_at, IsTarget}
-use Rattle.verifier.specs.Keeping.{states_of, states_with, keeps_at, is_slot, KeepsAtTargets, MarksTarget, Keeps}
+use Rattle.verifier.specs.Keeping.{states_of, states_with, keeps_at, is_slot, KeepsAtTargets, KeepsNothing, MarksTarget, Keeps}
 use Rattle.verifier.specs.declared.kept.Kept.{Kept}
 use Rattle.verifier.specs.declared.walk.Pending.{Pending}
 
@@ -17,6 +18,37 @@ none_more [] zero = refl
 none_more [] (suc n) = refl
 none_more (row ∷ rows) zero = refl
 none_more (row ∷ rows) (suc n) = none_more rows n
+
+-- ---- a slot that is marked
+
+or_true : (x : Bool) → (x || true) ≡ true
+or_true true = refl
+or_true false = refl
+
+or_false : (x : Bool) → (x || false) ≡ x
+or_false true = refl
+or_false false = refl
+
+is_itself : (marked : Option ℕ) (n : ℕ) → marked ≡ Some n → is_slot marked n ≡ true
+is_itself marked n e = subst (λ (g : Option ℕ). is_slot g n ≡ true) (sym e) (itself n) where
+  itself : (n : ℕ) → (n == n) ≡ true
+  itself n = search rules
+
+module _ {D : Type 0} (old : Kept D) (long : List (Option (List (AbsState D)))) (at : ℕ) (inside : at < length long) (same : (n : ℕ) → slice_index_or long n None ≡ slice_index_or old n None) where
+  pub marks_one : (marked : Option ℕ) (states : List (AbsState D)) → marked ≡ Some at → MarksTarget {D = D} marked old (slice_set long at (Some states))
+  marks_one marked states is slot = ⊎_elim
+      (λ here.
+      ap is_some (ap (λ n. slice_index_or (slice_set long at (Some states)) n None) here ∙ get_or-set_same long at (Some states) None inside)
+      ∙ sym (or_true (keeps_at old slot)) ∙ ap (λ b. keeps_at old slot || b) (sym (is_itself marked slot (is ∙ ap Some (sym here)))))
+      (λ other.
+      ap is_some (get_or-set_other long at slot (Some states) None other ∙ same slot)
+      ∙ sym (or_false (keeps_at old slot)) ∙ ap (λ b. keeps_at old slot || b) (sym (ap (λ (m : Option ℕ). is_slot m slot) is ∙ ne_eqb slot at other)))
+      (cases_eq slot at)
+
+  pub keeps_none : (states : List (AbsState D)) → states ≡ [] → KeepsNothing old → KeepsNothing {D = D} (slice_set long at (Some states))
+  keeps_none states empty none slot = ⊎_elim
+      (λ here. ap states_of (ap (λ n. slice_index_or (slice_set long at (Some states)) n None) here ∙ get_or-set_same long at (Some states) None inside) ∙ empty)
+      (λ other. ap states_of (get_or-set_other long at slot (Some states) None other ∙ same slot) ∙ none slot) (cases_eq slot at)
 
 -- ---- the targets of the jumps below a slot
 
@@ -32,18 +64,9 @@ either_is : (x y : Bool) → (x || y) ≡ true → (x ≡ true) ⊎ (y ≡ true)
 either_is true y e = inl refl
 either_is false y e = inr e
 
-or_true : (x : Bool) → (x || true) ≡ true
-or_true true = refl
-or_true false = refl
-
 is_that : (marked : Option ℕ) (n : ℕ) → is_slot marked n ≡ true → marked ≡ Some n
 is_that None n e = absurd cc
 is_that (Some g) n e = ap Some (sym (eqb-true n g e))
-
-is_itself : (marked : Option ℕ) (n : ℕ) → marked ≡ Some n → is_slot marked n ≡ true
-is_itself marked n e = subst (λ (g : Option ℕ). is_slot g n ≡ true) (sym e) (itself n) where
-  itself : (n : ℕ) → (n == n) ≡ true
-  itself n = search rules
 
 pub none_below : {D : Type 0} (code : List Insn) (kept : Kept D) → kept ≡ [] → KeepsBelow code 0 kept
 none_below code kept none = record {

@@ -4,6 +4,7 @@ pub mod Branches
 pub mod Counting
 pub mod Keeping
 pub mod Signed
+pub mod Blocks
 pub mod Safety
 pub mod Reaching
 pub mod Walking

@@ -2,6 +2,7 @@
 pub mod Layout
 pub mod Targets
 pub mod Signed
+pub mod Blocks
 pub mod Keeping
 pub mod Searches
 pub mod Walk

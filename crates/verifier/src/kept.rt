@@ -4,17 +4,16 @@ ghost use Rattle.std.specs.Prelude.{◌≡◌, ◌≤◌, ◌<◌, ℕ, true, fa
 ghost use Rattle.insn.specs.Encoding.{slot_count};
 ghost use Rattle.insn.specs.declared.decoding.TheConstants.{MAX_SLOTS};
 ghost use Rattle.absstate.specs.MarkWords.{words_of};
-ghost use Rattle.absstate.specs.Signatures.{lies_within};
-ghost use Rattle.absstate.specs.declared.signature.StateSignature.{StateSignature};
 ghost use Rattle.verifier.specs.Targets.{target_at};
 ghost use Rattle.verifier.specs.Signed.{signatures_of};
 ghost use Rattle.verifier.specs.Searches.{HasPassed, Finds, Weighs};
 ghost use Rattle.verifier.specs.Keeping.{states_of, states_with, kept_at, keeps_at, KeepsNothing, KeepsAtTargets, MarksTarget, Keeps};
 
 use crate::layout::distance;
+use crate::signatures::Signatures;
 use crate::walk::Pending;
 use crate::weights::{PART, SEARCH, WHOLE};
-use absstate::{AbsState, PackedState, Part, StateSignature};
+use absstate::{AbsState, PackedState, Part};
 use insn::MAX_SLOTS;
 use interval::Domain;
 use semantics::{Fetched, Program};
@@ -43,7 +42,7 @@ impl<D: Domain> Model for KeptState<D> {
 /// The states that are kept at a slot, and beside them the signature of each, which is compared first.
 #[derive(Drop)]
 pub struct States<D: Domain> {
-    signatures: Vec<StateSignature>,
+    signatures: Signatures,
     states: Vec<KeptState<D>>,
 }
 
@@ -56,7 +55,7 @@ impl<D: Domain> Model for States<D> {
 
     ghost view = { λ s. s.states.items };
 
-    ghost invariant = { λ s. s.signatures.items ≡ signatures_of D.ops s.states.items };
+    ghost invariant = { λ s. s.signatures ≡ signatures_of D.ops s.states.items };
 }
 
 /// The states that the walk has kept, by slot: `None` at each slot that no jump leads to. The list ends at the last slot that
@@ -149,31 +148,10 @@ pub(crate) enum Search {
     Open { passed: usize },
 }
 
-/// Returns the index of the first signature, from an index on and before an end, that is within another one; the end where none
-/// is.
-fn next_within(
-    signatures: &[StateSignature],
-    other: StateSignature,
-    from: usize,
-    end: usize,
-) -> usize
-    requires after { from ≤ end }
-    requires inside { end ≤ length signatures.now }
-    ensures after { from ≤ result }
-    ensures inside { result ≤ end }
-    ensures none { (i : ℕ) → (s : StateSignature) → from ≤ i → i < result → slice_index_or signatures.now i s ≡ s → lies_within s other ≡ false }
-{
-    let mut next = from;
-    while next < end && !signatures[next].lies_within(other) {
-        next += 1;
-    }
-    next
-}
-
 /// Searches some states, each with its signature, for one that covers a state. None of the first `passed` does. Returns what it
 /// weighs, too: it is left at [`SEARCH`].
 fn search_among<D: Domain>(
-    signatures: &[StateSignature],
+    signatures: &Signatures,
     states: &mut Vec<KeptState<D>>,
     state: &AbsState<D>,
     passed: usize,
@@ -190,7 +168,7 @@ fn search_among<D: Domain>(
     let mut weight = 0;
     while at < states.len() && weight < SEARCH {
         let end = at + (states.len() - at).min(SEARCH - weight);
-        let next = next_within(signatures, signature, at, end);
+        let next = signatures.next_within(signature, at, end);
         weight += next - at;
         at = next;
         if at < end {
@@ -217,7 +195,7 @@ impl<D: Domain> States<D> {
         ensures { result ≡ [] }
     {
         States {
-            signatures: Vec::new(alloc),
+            signatures: Signatures::new(alloc),
             states: Vec::new(alloc),
         }
     }
@@ -244,7 +222,7 @@ impl<D: Domain> States<D> {
     {
         if self.states.is_empty() {
             self.states.reserve_exact(1)?;
-            self.signatures.reserve_exact(1)?;
+            self.signatures.reserve_first()?;
         }
         Ok(())
     }

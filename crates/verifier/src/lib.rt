@@ -4,6 +4,7 @@
 mod kept;
 mod layout;
 mod refusal;
+mod signatures;
 mod slices;
 mod walk;
 mod weights;

@@ -22,3 +22,4 @@ pub mod Words
 pub mod Packing
 pub mod Links
 pub mod Signing
+pub mod Common

@@ -1,5 +1,5 @@
 -- Interface. Where one state covers another, it has fewer links than the other, or the same.
-use Rattle.std.proofs.Common.{◌≡◌, ℕ, zero, suc, ◌+◌, ◌<◌, ◌≤◌, ◌⊎◌, inl, inr, ⊎_elim, Bool, true, false, List, length, take, position, Option, None, Some, refl, sym, ap, ap₂, ◌∙◌, arith, lt-ltb, eq-eqb, eqb-true, get_or-take, cond}
+use Rattle.std.proofs.Common.{◌≡◌, ℕ, zero, suc, ◌<◌, ◌⊎◌, inl, inr, Bool, true, false, List, length, take, position, Option, None, Some, refl, sym, ap, ap₂, ◌∙◌, arith, lt-ltb, eq-eqb, eqb-true, get_or-take, cond}
 use Rattle.std.specs.Prelude.{◌==◌, nat_lt, slice_index_or}
 use Rattle.std.specs.List.{position_or_len}
 use Rattle.std.proofs.lemmas.Bool.{cases_lt, both_ways, or_left, or_right}

@@ -1,20 +1,23 @@
 -- Interface. Where one state covers another, its signature is within the other's.
-use Rattle.std.proofs.Common.{◌≡◌, ℕ, suc, ◌+◌, ◌*◌, ◌/◌, ◌-◌, ◌<◌, ◌≤◌, ◌%◌, ◌^◌, ◌⊎◌, inl, inr, ⊎_elim, Bool, true, false, ℤ, List, [], ◌∷◌, take, drop, length, refl, sym, ap, ap₂, ◌∙◌, arith, bit_and, lt-ltb, le-ltb, eq-eqb}
-use Rattle.std.specs.Prelude.{◌==◌, nat_lt, if◌then◌else◌}
+use Rattle.std.proofs.Common.{◌≡◌, ℕ, suc, pos, ◌+◌, ◌*◌, ◌/◌, ◌-◌, ◌<◌, ◌≤◌, ◌%◌, ◌^◌, ◌⊎◌, inl, inr, ⊎_elim, Bool, true, false, ℤ, List, [], ◌∷◌, take, drop, length, refl, sym, ap, ap₂, ◌∙◌, subst, arith, bit_and, lt-ltb, le-ltb, eq-eqb}
+use Rattle.std.specs.Prelude.{◌==◌, nat_lt, int_le, if◌then◌else◌}
 use Rattle.std.specs.Int.{w32, w64, rotate_left, cast_unsigned}
 use Rattle.std.specs.Int.Bits.{and_self}
+use Rattle.std.proofs.lemmas.Int.{ints}
 use Rattle.std.proofs.lemmas.Nat.{and_shr}
 use Rattle.std.proofs.lemmas.Bool.{eqb-true, cases_lt, or_left, or_right}
 use Rattle.interval.specs.Domains.{Operations, AreSound, span}
 use Rattle.interval.specs.declared.domain.Bounds.{Bounds}
-use Rattle.absstate.specs.Covers.{covers_anchor, covers_value, covers_values, same_int, covers}
+use Rattle.absstate.specs.Covers.{covers_places, proves_less, covers_anchor, covers_value, covers_values, same_int, covers}
 use Rattle.absstate.specs.MarkWords.{words_of, are_within}
-use Rattle.absstate.specs.Signatures.{hashed_bit, number_bit, value_bit, value_bits, mark_bits, precision, precisions, hashed_bounds, bounds_hash, bounds_hashes, lie_within, bits_within, state_signature, lies_within}
+use Rattle.absstate.specs.Signatures.{hashed_bit, number_bit, proved_bit, value_bit, value_bits, mark_bits, precision, precisions, hashed_bounds, bounds_hash, bounds_hashes, lie_within, bits_within, state_signature, lies_within}
+use Rattle.absstate.specs.AbstractStates.{proved_from}
 use Rattle.absstate.specs.laws.Step.Covering.{int_same}
 use Rattle.absstate.specs.laws.Step.Links.{links_within, linked_alike}
 use Rattle.absstate.specs.laws.Step.MemoryValues.{first_of_and, rest_of_and, both_true}
 use Rattle.absstate.specs.laws.Step.Packing.{covered_front, covered_rest, values_of}
 use Rattle.absstate.specs.laws.Step.Words.{IsWithin, within_times, within_mod, within_or, nothing_within, same_number, covered_within}
+use Rattle.absstate.specs.declared.abstract_state.Anchor.{Anchor}
 use Rattle.absstate.specs.declared.abstract_state.AbstractValue.{AbstractValue}
 use Rattle.absstate.specs.declared.abstract_state.AbstractValue.TheVariants.{Nothing, Scalar, Ctx, Stack, Data, End}
 use Rattle.absstate.specs.declared.abstract_state.AbsState.{AbsState}
@@ -52,6 +55,17 @@ number_within index x y same = by (x.lo == x.hi) refl where
   by true e =
       let is : y ≡ x = same (eqb-true x.lo x.hi e) in
       same_within (hashed_bit index 0 x.lo) (number_bit index y) (sym (ap (λ (test : Bool). if test then hashed_bit index 0 x.lo else 0) e) ∙ ap (number_bit index) (sym is))
+
+-- what is proved past a place is proved where more is
+no_less : (p q : ℤ) → int_le p q ≡ true → int_le q (pos 0) ≡ true → int_le p (pos 0) ≡ true
+no_less p q less none = grind (arith, ints)
+
+proved_within : (index : ℕ) (p q : ℤ) → int_le p q ≡ true → IsWithin (proved_bit index p) (proved_bit index q)
+proved_within index p q less = by (int_le p (pos 0)) (int_le q (pos 0)) refl refl where
+  by : (none none_other : Bool) → int_le p (pos 0) ≡ none → int_le q (pos 0) ≡ none_other → IsWithin (proved_bit index p) (proved_bit index q)
+  by true none_other e f = subst (λ (test : Bool). IsWithin (if test then 0 else hashed_bit index 5 0) (proved_bit index q)) (sym e) (nothing_within (proved_bit index q))
+  by false false e f = same_within (proved_bit index p) (proved_bit index q) (ap (λ (test : Bool). if test then 0 else hashed_bit index 5 0) (e ∙ sym f))
+  by false true e f = let bad : true ≡ false = sym (no_less p q less f) ∙ e in absurd cc
 
 -- bounds that are no nearer than bounds of one word are the same
 same_as_one : (x y : Bounds) → (span y < span x) ⊎ (y ≡ x) → x.lo ≡ x.hi → y ≡ x
@@ -122,21 +136,27 @@ within_by_parts s t bits ranked links =
     ranked) links)
 
 module _ {D : Type 0} (ops : Operations D) (Member : D → ℕ → Type 0) (sound : AreSound ops Member) (a b : AbsState D) where
-  value_within : (index : ℕ) (v u : AbstractValue D) → covers_value ops a b v u ≡ true → IsWithin (value_bit ops index v) (value_bit ops index u)
-  value_within index Nothing u e = nothing_within (value_bit ops index u)
+  places_within : (index : ℕ) (x y : Anchor) (k l : ℤ) → covers_value ops a b (Data x k) (Data y l) ≡ true → IsWithin (value_bit ops index a.proved (Data x k)) (value_bit ops index b.proved (Data y l))
+  places_within index x y k l e =
+      let place : ℤ → ℕ = λ n. hashed_bit index 3 (cast_unsigned w32 n) in
+      within_or (place k) (place l) (proved_bit index (proved_from x a.proved)) (proved_bit index (proved_from y b.proved))
+      (same_within (place k) (place l) (ap place (int_same k l (first_of_and (same_int k l) (covers_anchor a b x y) e))))
+      (proved_within index (proved_from x a.proved) (proved_from y b.proved) (rest_of_and (covers_places x y) (proves_less a b x y) (rest_of_and (same_int k l) (covers_anchor a b x y) e)))
+
+  value_within : (index : ℕ) (v u : AbstractValue D) → covers_value ops a b v u ≡ true → IsWithin (value_bit ops index a.proved v) (value_bit ops index b.proved u)
+  value_within index Nothing u e = nothing_within (value_bit ops index b.proved u)
   value_within index (Scalar x) (Scalar y) e = number_within index (ops.bounds x) (ops.bounds y) (same_as_one (ops.bounds x) (ops.bounds y) (sound.covered_nearer x y e))
-  value_within index Ctx Ctx e = same_within (value_bit ops index Ctx) (value_bit ops index Ctx) refl
-  value_within index (Stack k) (Stack l) e = same_within (value_bit ops index (Stack k)) (value_bit ops index (Stack l)) (ap (λ (n : ℤ). value_bit ops index (Stack n)) (int_same k l e))
-  value_within index (Data x k) (Data y l) e =
-      same_within (value_bit ops index (Data x k)) (value_bit ops index (Data y l)) (ap (λ (n : ℤ). hashed_bit index 3 (cast_unsigned w32 n)) (int_same k l (first_of_and (same_int k l) (covers_anchor a b x y) e)))
-  value_within index End End e = same_within (value_bit ops index End) (value_bit ops index End) refl
+  value_within index Ctx Ctx e = same_within (hashed_bit index 1 0) (hashed_bit index 1 0) refl
+  value_within index (Stack k) (Stack l) e = let place : ℤ → ℕ = λ n. hashed_bit index 2 (cast_unsigned w32 n) in same_within (place k) (place l) (ap place (int_same k l e))
+  value_within index (Data x k) (Data y l) e = places_within index x y k l e
+  value_within index End End e = same_within (hashed_bit index 4 0) (hashed_bit index 4 0) refl
   value_within index v u e = absurd cc
 
-  values_within : (index : ℕ) (vs us : List (AbstractValue D)) → covers_values ops a b vs us ≡ true → IsWithin (value_bits ops index vs) (value_bits ops index us)
-  values_within index [] us e = nothing_within (value_bits ops index us)
+  values_within : (index : ℕ) (vs us : List (AbstractValue D)) → covers_values ops a b vs us ≡ true → IsWithin (value_bits ops index a.proved vs) (value_bits ops index b.proved us)
+  values_within index [] us e = nothing_within (value_bits ops index b.proved us)
   values_within index (v ∷ vs) [] e = absurd cc
   values_within index (v ∷ vs) (u ∷ us) e =
-      within_or (value_bit ops index v) (value_bit ops index u) (value_bits ops (suc index) vs) (value_bits ops (suc index) us)
+      within_or (value_bit ops index a.proved v) (value_bit ops index b.proved u) (value_bits ops (suc index) a.proved vs) (value_bits ops (suc index) b.proved us)
       (value_within index v u (first_of_and (covers_value ops a b v u) (covers_values ops a b vs us) e))
       (values_within (suc index) vs us (rest_of_and (covers_value ops a b v u) (covers_values ops a b vs us) e))
 

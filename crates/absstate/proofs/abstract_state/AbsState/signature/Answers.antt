@@ -23,8 +23,8 @@ returns g c =
     let values = c.registers_of-values.ensures.values in
     let count : length c.registers_of-values.result.now ≡ VALUES = ap (λ (values : List (AbstractValue _)). length values) values ∙ c.registers_of-values.ensures.count in
     of_parts
-    (c.value_bits.ensures ∙ ap (value_bits g.D.Domain.ops 0) (c.split_at.ensures.front ∙ ap (take REGISTERS) values))
-    (c.value_bits-2.ensures ∙ ap (value_bits g.D.Domain.ops REGISTERS) (c.split_at.ensures.back ∙ ap (drop REGISTERS) values))
+    (c.value_bits.ensures ∙ ap (value_bits g.D.Domain.ops 0 c.args.self.now.proved) (c.split_at.ensures.front ∙ ap (take REGISTERS) values))
+    (c.value_bits-2.ensures ∙ ap (value_bits g.D.Domain.ops REGISTERS c.args.self.now.proved) (c.split_at.ensures.back ∙ ap (drop REGISTERS) values))
     (c.mark_bits.ensures ∙ ap (mark_bits 0) c.requires)
     (c.bounds_hashes.ensures ∙ ap (bounds_hashes g.D.Domain.ops) values)
     (c.precisions.ensures.value ∙ ap (precisions g.D.Domain.ops) values)
