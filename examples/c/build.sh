@@ -1,7 +1,8 @@
 #!/usr/bin/env bash
 # Compiles a C function to a program of relayd, and verifies it: examples/c/build.sh FILE.c OUT.bpf
 #
-# CLANG, OBJCOPY and READELF name LLVM's programs, RELAYD the relay's, and CFLAGS further options of clang, as -O1 or -mcpu=v3.
+# CLANG, OBJCOPY and READELF name LLVM's programs, RELAYD the relay's, and CFLAGS further options of the compiler, as -O1 or -mcpu=v3.
+# BPF_CC names GCC's compiler for BPF, which is taken in place of clang.
 set -euo pipefail
 here=$(cd "$(dirname "$0")" && pwd)
 clang=${CLANG:-clang} objcopy=${OBJCOPY:-llvm-objcopy} readelf=${READELF:-llvm-readelf}
@@ -16,29 +17,39 @@ fail() {
 }
 
 [ $# -eq 2 ] || fail "usage: $0 FILE.c OUT.bpf"
-for tool in "$clang" "$objcopy" "$readelf"; do
+if [ -n "${BPF_CC:-}" ]; then
+  command -v "$BPF_CC" >/dev/null || fail "$BPF_CC is needed: it is GCC's compiler for BPF"
+  compiler=("$BPF_CC")
+else
+  # of a loop that isn't unrolled clang names the line, since it keeps the lines of the text
+  compiler=("$clang" -target bpf -Werror=pass-failed -gline-tables-only)
+fi
+for tool in "${compiler[0]}" "$objcopy" "$readelf"; do
   command -v "$tool" >/dev/null || fail "$tool is needed: it is a part of LLVM"
 done
 folder=$(mktemp -d)
 trap 'rm -rf "$folder"' EXIT
-object=$folder/program.o
+object=$folder/program.o program=$folder/program.bpf
 read -ra flags <<<"-O2 ${CFLAGS:-}"
-"$clang" -target bpf -I "$here" "${flags[@]}" -Wall -Wextra -c "$1" -o "$object" || fail "$1 is not compiled"
+"${compiler[@]}" -I "$here" "${flags[@]}" -Wall -Wextra -c "$1" -o "$object" || fail "$1 is not compiled"
 
-# prints the sections of a kind that have bytes
-sections() {
-  "$readelf" -S --wide "$object" | sed 's/^ *\[ *[0-9]*\] *//' | awk -v kind="$1" '$1 ~ kind && $5 !~ /^0+$/ { print $1 }'
-}
-
-if [ -n "$(sections '^[.]rel[.]text')" ]; then
-  fail "$1 names something outside of its function: a variable, a string or a function that is not INLINE"
-fi
-if [ -n "$(sections '^[.](rodata|data|bss|maps)')" ]; then
-  fail "$1 has constants or variables outside of its function, which a program has no place for"
+# what lies outside of the function is in the way only where an instruction refers to it
+named=$("$readelf" -r --wide "$object" |
+  awk '/^Relocation section/ { text = /[.]rel[.]text/ } text && /R_BPF/ { print $NF }' | sort -u | tr '\n' ' ')
+if [ -n "$named" ]; then
+  fail "$1 names something outside of its function, ${named% }: a variable, a constant, a string or a function that is not INLINE"
 fi
 functions=$("$readelf" -s --wide "$object" | awk '$4 == "FUNC" { print $8 }')
-[ "$(wc -w <<<"$functions")" -eq 1 ] || fail "$1 has several functions, and a program is one: make $(tr '\n' ' ' <<<"$functions")INLINE but for one"
-"$objcopy" -O binary --only-section=.text "$object" "$folder/program.bpf"
+if [ "$(wc -w <<<"$functions")" -ne 1 ]; then
+  fail "$1 has several functions, and a program is one: make $(tr '\n' ' ' <<<"$functions")INLINE but for one"
+fi
+"$objcopy" -O binary --only-section=.text "$object" "$program"
+# an indirect call has the opcode 0x8d
+slot=$(od -An -v -tx1 -w8 "$program" | awk '$1 == "8d" { print NR - 1; exit }')
+if [ -n "$slot" ]; then
+  fail "$1 calls what a pointer names, at slot $slot: a call names its helper itself, as in
+    a ? f(ctx, x) : g(ctx, x), and not (a ? f : g)(ctx, x)"
+fi
 # clang shares blocks, and puts some before their users: jumps have to lead forward
-"$relayd" order "$folder/program.bpf" "$2" >"$folder/said" || exit $?
+"$relayd" order "$program" "$2" >"$folder/said" || exit $?
 "$relayd" verify "$2"

@@ -92,7 +92,7 @@ INLINE int relay_from_ipv6(struct context *ctx) {
   sent->from.family = IPV6;
   sent->from.port = peer.port ^ SWAP16(COOKIE >> 16);
   sent->from.address[0] = peer.address[0] ^ SWAP32(COOKIE);
-#pragma unroll
+  UNROLL
   for (int i = 0; i < 3; i++)
     sent->from.address[i + 1] = peer.address[i + 1] ^ sent->head.transaction_id[i];
   sent->data.type = SWAP16(DATA_ATTRIBUTE);
