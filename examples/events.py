@@ -16,6 +16,10 @@ Indented lines after `from` and `to` say what the datagram is: `data TEXT`; `Cha
 as `Allocate request`, and then its attributes, one a line, as `LIFETIME 600`. `signed` stands for USERNAME, REALM,
 NONCE and MESSAGE-INTEGRITY in a request, and for MESSAGE-INTEGRITY in a response. A response has the transaction id of
 the last request, and an indication of the relay's the one that the event's line hands in.
+
+A TEXT that begins with `hex:` stands for bytes, two digits each, as `data hex:80600001`; `hex:` alone for none. An
+ADDRESS is `192.0.2.7:5000` or `[2001:db8::7]:5000`. An attribute that has no name here is written as its type, as
+`0x802A hex:0001`; a flag, as DONT-FRAGMENT, and FINGERPRINT, which comes last and is computed, have no value.
 """
 
 import hashlib
@@ -24,6 +28,7 @@ import ipaddress
 import pathlib
 import struct
 import sys
+import zlib
 
 COOKIE = 0x2112A442
 METHODS = {"Binding": 1, "Allocate": 3, "Refresh": 4, "Send": 6, "Data": 7, "CreatePermission": 8, "ChannelBind": 9}
@@ -40,10 +45,18 @@ ATTRIBUTES = {
     "REALM": 0x0014,
     "NONCE": 0x0015,
     "XOR-RELAYED-ADDRESS": 0x0016,
+    "REQUESTED-ADDRESS-FAMILY": 0x0017,
+    "EVEN-PORT": 0x0018,
     "REQUESTED-TRANSPORT": 0x0019,
+    "DONT-FRAGMENT": 0x001A,
     "XOR-MAPPED-ADDRESS": 0x0020,
+    "SOFTWARE": 0x8022,
+    "FINGERPRINT": 0x8028,
 }
 INTEGRITY_BYTES = 20
+# what the checksum of FINGERPRINT is XORed with (RFC 8489, section 14.7)
+FINGERPRINT_MASK = 0x5354554E
+FAMILIES = {"IPv4": 1, "IPv6": 2}
 
 
 def padded(value):
@@ -51,11 +64,29 @@ def padded(value):
     return value + bytes(-len(value) % 4)
 
 
-def xor_address(text):
-    """Returns the value of an XOR address over IPv4 (RFC 8489, section 14.2)."""
-    ip, port = text.split(":")
-    masked = int(ipaddress.IPv4Address(ip)) ^ COOKIE
-    return struct.pack(">BBHI", 0, 1, int(port) ^ COOKIE >> 16, masked)
+def bytes_of(text):
+    """Returns the bytes that a text stands for: the digits after `hex:`, or the text itself."""
+    return bytes.fromhex(text[4:]) if text.startswith("hex:") else text.encode()
+
+
+def address_of(text):
+    """Returns the IP address and the port of an ADDRESS."""
+    ip, _, port = text.rpartition(":")
+    return ipaddress.ip_address(ip.strip("[]")), int(port)
+
+
+def address_word(text):
+    """Returns an ADDRESS as the lines of events have it: an IPv6 address in 32 digits."""
+    ip, port = address_of(text)
+    return f"[{ip.packed.hex()}]:{port}" if ip.version == 6 else f"{ip}:{port}"
+
+
+def xor_address(text, transaction):
+    """Returns the value of an XOR address in a message with a transaction id (RFC 8489, section 14.2)."""
+    ip, port = address_of(text)
+    mask = struct.pack(">I", COOKIE) + transaction
+    masked = bytes(one ^ other for one, other in zip(ip.packed, mask))
+    return struct.pack(">BBH", 0, 1 if ip.version == 4 else 2, port ^ COOKIE >> 16) + masked
 
 
 def error_code(text):
@@ -64,10 +95,10 @@ def error_code(text):
     return struct.pack(">HBB", 0, int(code) // 100, int(code) % 100) + reason.encode()
 
 
-def value_of(name, text):
-    """Returns the value of an attribute."""
-    if name.startswith("XOR-"):
-        return xor_address(text)
+def value_of(name, text, transaction):
+    """Returns the value of an attribute of a message with a transaction id."""
+    if name.startswith("XOR-") and not text.startswith("hex:"):
+        return xor_address(text, transaction)
     if name == "ERROR-CODE":
         return error_code(text)
     if name == "LIFETIME":
@@ -76,17 +107,26 @@ def value_of(name, text):
         return struct.pack(">HH", int(text, 0), 0)
     if name == "REQUESTED-TRANSPORT":
         return struct.pack(">Bxxx", int(text))
-    return text.encode()
+    if name == "REQUESTED-ADDRESS-FAMILY":
+        return struct.pack(">Bxxx", FAMILIES[text])
+    return bytes_of(text)
 
 
 def attribute(name, value):
-    """Returns an attribute with this value."""
-    return struct.pack(">HH", ATTRIBUTES[name], len(value)) + padded(value)
+    """Returns an attribute with this value, by its name or its type."""
+    kind = ATTRIBUTES[name] if name in ATTRIBUTES else int(name, 0)
+    return struct.pack(">HH", kind, len(value)) + padded(value)
 
 
 def header(kind, length, transaction):
     """Returns the header of a message."""
     return struct.pack(">HHI", kind, length, COOKIE) + transaction
+
+
+def fingerprint(kind, body, transaction):
+    """Returns FINGERPRINT after these attributes (RFC 8489, section 14.7)."""
+    checksum = zlib.crc32(header(kind, len(body) + 8, transaction) + body)
+    return attribute("FINGERPRINT", struct.pack(">I", checksum ^ FINGERPRINT_MASK))
 
 
 class Session:
@@ -134,18 +174,21 @@ class Session:
             if name == "signed":
                 body += b"" if of_relay else self.credentials()
                 body += self.integrity(kind, body, transaction)
+            elif name == "FINGERPRINT":
+                body += fingerprint(kind, body, transaction)
             else:
-                body += attribute(name, value_of(name, text))
+                body += attribute(name, value_of(name, text, transaction))
         return header(kind, len(body), transaction) + body
 
     def datagram(self, lines, of_relay):
         """Returns the datagram that indented lines describe."""
         word, _, rest = lines[0].partition(" ")
         if word == "data":
-            return rest.encode()
+            return bytes_of(rest)
         if word == "ChannelData":
             number, _, text = rest.partition(" ")
-            return struct.pack(">HH", int(number, 0), len(text)) + text.encode()
+            sent = bytes_of(text)
+            return struct.pack(">HH", int(number, 0), len(sent)) + sent
         return self.message(lines, of_relay)
 
     def event(self, words, lines):
@@ -153,7 +196,7 @@ class Session:
         self.number += 1
         data = self.datagram(lines, False)
         start = f"{words[1][0]} {self.now} {self.handed_in().hex()}"
-        source = words[2] if words[1] == "client" else f"{words[5]} {words[2]}"
+        source = address_word(words[2]) if words[1] == "client" else f"{words[5]} {address_word(words[2])}"
         return f"{start} {source} {data.hex() or '-'}"
 
     def answer(self, words, lines):
@@ -161,7 +204,7 @@ class Session:
         if words == ["nothing"]:
             return "-"
         data = self.datagram(lines, True)
-        target = f"c {words[2]}" if words[1] == "client" else f"p {words[5]} {words[2]}"
+        target = f"c {address_word(words[2])}" if words[1] == "client" else f"p {words[5]} {address_word(words[2])}"
         return f"{target} {data.hex() or '-'}"
 
 
