@@ -53,6 +53,8 @@ WRONG = [
     ("int program(struct context *ctx) { return ctx->data[0]; }", "refused V10 at 1"),
     ("int program(struct context *ctx) { u64 n = 0; while (n < ctx->length) n += 3; return n; }", "refused loop at"),
     ("int program(struct context *ctx) { return ctx->lenght; }", "is not compiled"),
+    ("int program(struct context *ctx) {\n  u64 n = 0;\n  UNROLL\n  while (n < ctx->length)\n    n += ctx->data[n - 64] + 1;\n"
+     "  return n;\n}", ":5:3: error: loop not unrolled"),
     ("int program(struct context *ctx) { return ctx->length > 9 ? DISCARD_AS(2) : RULES; }", "DISCARD_AS takes 3 to 255"),
     ("int program(struct context *ctx) { return __builtin_memcmp(ctx->data - 64, ctx->data - 32, ctx->side) == 0; }",
      "names something outside of its function, memcmp: "),

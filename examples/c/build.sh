@@ -21,8 +21,8 @@ if [ -n "${BPF_CC:-}" ]; then
   command -v "$BPF_CC" >/dev/null || fail "$BPF_CC is needed: it is GCC's compiler for BPF"
   compiler=("$BPF_CC")
 else
-  # of a loop that isn't unrolled clang names the line, since it keeps the lines of the text
-  compiler=("$clang" -target bpf -Werror=pass-failed -gline-tables-only)
+  # a loop that isn't unrolled is an error, of which clang names the line where remarks are asked for: here those of no pass
+  compiler=("$clang" -target bpf -Werror=pass-failed '-Rpass=^$')
 fi
 for tool in "${compiler[0]}" "$objcopy" "$readelf"; do
   command -v "$tool" >/dev/null || fail "$tool is needed: it is a part of LLVM"
