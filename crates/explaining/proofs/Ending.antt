@@ -1,5 +1,5 @@
 -- The verdict of a search, from that of its walk.
-use Rattle.std.proofs.Common.{◌≡◌, ℕ, ◌+◌, List, Result, Ok, Err, inl, inr, subst, arith}
+use Rattle.std.proofs.Common.{◌≡◌, ℕ, ◌+◌, List, [], Result, Ok, Err, inl, inr, subst, arith}
 use Rattle.std.specs.Prelude.{IfErr}
 use Rattle.insn.specs.declared.instruction.Insn.{Insn}
 use Rattle.interval.specs.laws.Interval.{interval_precise}
@@ -23,12 +23,12 @@ use Rattle.explaining.specs.declared.searching.Trail.{Trail}
 use Rattle.explaining.proofs.Trailing.{shown}
 
 -- a refusal before the first step needs no path
-pub shown_start : (code : List Insn) (path : List (Pending Interval)) (e : Refusal) → MayRefuseStart code e → ShowsRefusal code path e
-shown_start code path (refusal.Stuck reason slot) (inl fault) = inl fault
-shown_start code path (refusal.Stuck reason slot) (inr memory) = let bad : refusal.Stuck reason slot ≡ refusal.Memory 0 = memory.0 in absurd cc
-shown_start code path (refusal.Budget slot) (inl fault) = absurd fault
-shown_start code path (refusal.Budget slot) (inr memory) = let bad : refusal.Budget slot ≡ refusal.Memory 0 = memory.0 in absurd cc
-shown_start code path (refusal.Memory slot) may = tt
+pub shown_start : (code : List Insn) (path : List (Pending Interval)) (e : Refusal) → path ≡ [] → MayRefuseStart code e → ShowsRefusal code path e
+shown_start code path (refusal.Stuck reason slot) none (inl fault) = inl (fault, none)
+shown_start code path (refusal.Stuck reason slot) none (inr memory) = let bad : refusal.Stuck reason slot ≡ refusal.Memory 0 = memory.0 in absurd cc
+shown_start code path (refusal.Budget slot) none (inl fault) = absurd fault
+shown_start code path (refusal.Budget slot) none (inr memory) = let bad : refusal.Budget slot ≡ refusal.Memory 0 = memory.0 in absurd cc
+shown_start code path (refusal.Memory slot) none may = tt
 
 -- a refusal of the last unit of work
 pub shown_end : (w : Walking Interval) (t : Trail) (r : Result Verified Refusal) (remains : Remains Interval) → IsHeaded w.code w.waits t → IsUnit interval_ops w (Ended r remains) → IfErr r (ShowsRefusal w.code t.path.items)

@@ -1,3 +1,4 @@
 pub mod Trailing
 pub mod Ending
 pub mod Statuses
+pub mod Lines

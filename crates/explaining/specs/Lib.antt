@@ -3,3 +3,4 @@ pub mod Paths
 pub mod Trails
 pub mod Texts
 pub mod Explained
+pub mod Lines

@@ -56,8 +56,9 @@ abbrev pub AtPathEnd : {D : Type 0} → List (Pending D) → (Pending D → Type
 AtPathEnd {D = D} path P = (before : List (Pending D)) × (last : Pending D) × (path ≡ before ++ last ∷ []) × P last
 
 -- What a path shows of a refusal: it ends at its slot, and the step from its last state is refused for that reason, or is the
--- one that would pass the budget. A fault of the layout comes before every path, and of memory that runs out nothing is said.
+-- one that would pass the budget. A fault of the layout comes before every path, so it has no state, and of memory that runs
+-- out nothing is said.
 abbrev pub ShowsRefusal : List Insn → List (Pending Interval) → Refusal → Type 0
-ShowsRefusal code path (refusal.Stuck reason slot) = IsLayoutFault code reason slot ⊎ AtPathEnd path (λ last. (slot ≡ last.slot) × IsRefusedAt interval_ops code last reason)
+ShowsRefusal code path (refusal.Stuck reason slot) = (IsLayoutFault code reason slot × (path ≡ [])) ⊎ AtPathEnd path (λ last. (slot ≡ last.slot) × IsRefusedAt interval_ops code last reason)
 ShowsRefusal code path (refusal.Budget slot) = AtPathEnd path (λ last. slot ≡ last.slot)
 ShowsRefusal code path (refusal.Memory slot) = Unit {0}

@@ -6,7 +6,10 @@ ghost use Rattle.insn.specs.declared.decoding.TheConstants.{MAX_SLOTS};
 ghost use Rattle.insn.specs.declared.refusal.DecodeError.TheVariants.{Memory};
 ghost use Rattle.loader.specs.declared.loaded.TheConstants.{BUDGET};
 ghost use Rattle.verifier.specs.Refusing.{IsVerdict};
+ghost use Rattle.interval.specs.Intervals.{interval_ops};
 ghost use Rattle.explaining.specs.Explained.{IsExplained, IsExplainedCode};
+ghost use Rattle.explaining.specs.Lines.{ExplainsCode, ExplainsFile, HasWalked};
+ghost use Rattle.explaining.specs.Paths.{IsStatePath, ShowsRefusal};
 
 use crate::changes::state_note;
 use crate::error::ExplainError;
@@ -35,6 +38,9 @@ fn searched_by<L: Ledger>(
     requires some { 0 < L.parts }
     requires few { slot_count code.now ≤ MAX_SLOTS }
     ensures verdict { IfOk result (λ x. IsVerdict code.now BUDGET x.verdict) }
+    ensures path { IfOk result (λ x. IsStatePath interval_ops code.now x.path.items) }
+    ensures refused { IfOk result (λ x. IfErr x.verdict (ShowsRefusal code.now x.path.items)) }
+    ensures walked { IfOk result (λ x. HasWalked code.now x.verdict) }
 {
     let mut steps = Steps::<L>::new(blank);
     search(alloc, code, BUDGET, &mut steps)
@@ -44,6 +50,9 @@ fn searched_by<L: Ledger>(
 fn searched(alloc: Global, code: &[Insn]) -> Result<Explanation, AllocError>
     requires few { slot_count code.now ≤ MAX_SLOTS }
     ensures verdict { IfOk result (λ x. IsVerdict code.now BUDGET x.verdict) }
+    ensures path { IfOk result (λ x. IsStatePath interval_ops code.now x.path.items) }
+    ensures refused { IfOk result (λ x. IfErr x.verdict (ShowsRefusal code.now x.path.items)) }
+    ensures walked { IfOk result (λ x. HasWalked code.now x.verdict) }
 {
     searched_by::<Brand>(alloc, code, Blank::new(1))
 }
@@ -150,7 +159,8 @@ fn explain<W: Write>(
     out: &mut W,
 ) -> Result<u8, ExplainError>
     requires few { slot_count code.now ≤ MAX_SLOTS }
-    ensures { IfOk result (IsExplainedCode code.now) }
+    ensures status { IfOk result (IsExplainedCode code.now) }
+    ensures lines { IfOk result (ExplainsCode code.now (W.contents out.old) (W.contents out.new)) }
 {
     let Explanation {
         verdict,
@@ -199,7 +209,8 @@ fn print_explanation<W: Write>(
     slot: Option<usize>,
     out: &mut W,
 ) -> Result<u8, ExplainError>
-    ensures { IfOk result (IsExplained file.now) }
+    ensures status { IfOk result (IsExplained file.now) }
+    ensures lines { IfOk result (ExplainsFile file.now (W.contents out.old) (W.contents out.new)) }
 {
     match decode(alloc, file) {
         Ok(code) => explain(alloc, &code, slot, out),
@@ -222,7 +233,8 @@ pub fn explain_file<W: Write>(
     slot: Option<usize>,
     out: &mut W,
 ) -> Result<u8, ExplainError>
-    ensures { IfOk result (IsExplained file.now) }
+    ensures status { IfOk result (IsExplained file.now) }
+    ensures lines { IfOk result (ExplainsFile file.now (W.contents out.old) (W.contents out.new)) }
 {
     let status = print_explanation(alloc, file, slot, out)?;
     out.flush().map_err(|_| ExplainError::Output)?;

@@ -1,5 +1,11 @@
 //! Prints the lines of an explanation.
 
+ghost use Rattle.std.specs.Prelude.{◌≡◌, ◌++◌, OnOk, IfOk, codes, decimal, string_bytes};
+ghost use Rattle.std.specs.List.{before_first};
+ghost use Rattle.std.specs.Io.KnownBytes.{Appends};
+ghost use Rattle.explaining.specs.Lines.{AppendsLines, AppendsText, is_newline, line_text, step_text};
+ghost use Rattle.explaining.specs.Lines.{made_of, refusal_slot, step_at, steps_of};
+
 use crate::changes::{state_note, step_note};
 use crate::error::ExplainError;
 use crate::refusing::push_refusal;
@@ -18,19 +24,62 @@ macro_rules! line {
     };
 }
 
-/// Prints an instruction with its slot, and a note to it.
+/// Returns the first line of a note.
+fn first_line(note: &str) -> &str
+    ensures { result.now ≡ before_first is_newline note.now }
+{
+    match note.split_once('\n') {
+        Some((first, _)) => first,
+        None => note,
+    }
+}
+
+/// Returns an instruction with its slot.
+fn step_of(alloc: Global, slot: usize, insn: Insn) -> Result<String, AllocError>
+    ensures { IfOk result (λ step. string_bytes step ≡ step_text slot insn) }
+{
+    let mut step = String::new(alloc);
+    write!(step, "{slot} {insn}")?;
+    Ok(step)
+}
+
+/// Prints a step, and a note at a column of its own.
+fn print_noted<W: Write>(
+    out: &mut W,
+    step: &str,
+    blank: &str,
+    note: &str,
+) -> Result<(), ExplainError>
+    ensures { OnOk result (Appends (W.contents out.old) (W.contents out.new)
+        (step.now ++ blank.now ++ codes " ; " ++ note.now ++ codes "\n")) }
+{
+    line!(out; "{step}{blank} ; {note}")
+}
+
+/// Prints a step without a note.
+fn print_bare<W: Write>(out: &mut W, step: &str) -> Result<(), ExplainError>
+    ensures { OnOk result (Appends (W.contents out.old) (W.contents out.new) (step.now ++ codes "\n")) }
+{
+    line!(out; "{step}")
+}
+
+/// Prints an instruction with its slot, and the first line of a note to it.
 pub(crate) fn print_line<W: Write>(
     alloc: Global,
     out: &mut W,
     slot: usize,
     insn: Insn,
     note: &str,
-) -> Result<(), ExplainError> {
-    let step = format!(in alloc; "{slot} {insn}")?;
+) -> Result<(), ExplainError>
+    ensures { OnOk result (Appends (W.contents out.old) (W.contents out.new) (line_text slot insn note.now)) }
+{
+    let step = step_of(alloc, slot, insn)?;
+    let note = first_line(note);
     if note.is_empty() {
-        line!(out; "{step}")
+        print_bare(out, &step)
     } else {
-        line!(out; "{step:<25} ; {note}")
+        let blank = " ".repeat(alloc, 25usize.saturating_sub(step.len()))?;
+        print_noted(out, &step, &blank, note)
     }
 }
 
@@ -40,7 +89,10 @@ pub(crate) fn print_steps<W: Write>(
     program: &Program,
     path: &[Pending<Interval>],
     out: &mut W,
-) -> Result<(), ExplainError> {
+) -> Result<(), ExplainError>
+    ensures { OnOk result (AppendsLines (steps_of program.now (made_of path.now))
+        (W.contents out.old) (W.contents out.new)) }
+{
     for i in 1..path.len() {
         let here = &path[i - 1];
         if let Fetched::Begins(insn) = program.fetch(here.slot) {
@@ -116,7 +168,9 @@ fn refusal_note(
 }
 
 /// Returns the slot that a refusal names.
-fn slot_of(refusal: Refusal) -> usize {
+fn slot_of(refusal: Refusal) -> usize
+    ensures { result ≡ refusal_slot refusal }
+{
     match refusal {
         Refusal::Stuck { slot, .. } | Refusal::Budget { slot } | Refusal::Memory { slot } => slot,
     }
@@ -129,7 +183,10 @@ pub(crate) fn print_refusal<W: Write>(
     path: &[Pending<Interval>],
     refusal: Refusal,
     out: &mut W,
-) -> Result<(), ExplainError> {
+) -> Result<(), ExplainError>
+    ensures { OnOk result (AppendsLines (step_at program.now (refusal_slot refusal))
+        (W.contents out.old) (W.contents out.new)) }
+{
     let slot = slot_of(refusal);
     match program.fetch(slot) {
         Fetched::Begins(insn) => {
@@ -153,14 +210,24 @@ fn busiest(made: &[u32]) -> (usize, u32) {
     (slot, most)
 }
 
+/// Prints how many steps were made at a slot.
+fn print_count<W: Write>(out: &mut W, slot: usize, count: u32) -> Result<(), ExplainError>
+    ensures { OnOk result (Appends (W.contents out.old) (W.contents out.new)
+        (codes "slot " ++ decimal slot ++ codes ": " ++ decimal count ++ codes " steps\n")) }
+{
+    line!(out; "slot {slot}: {count} steps")
+}
+
 /// Prints the slots at which most steps were made, at most ten, and forgets their counts.
-pub(crate) fn print_busiest<W: Write>(made: &mut [u32], out: &mut W) -> Result<(), ExplainError> {
+pub(crate) fn print_busiest<W: Write>(made: &mut [u32], out: &mut W) -> Result<(), ExplainError>
+    ensures { OnOk result (AppendsText (W.contents out.old) (W.contents out.new)) }
+{
     for _ in 0..10 {
         let (slot, count) = busiest(made);
         if count == 0 {
             return Ok(());
         }
-        line!(out; "slot {slot}: {count} steps")?;
+        print_count(out, slot, count)?;
         if let Some(count) = made.get_mut(slot) {
             *count = 0;
         }

@@ -69,9 +69,18 @@ fn empty_register(state: &State, insn: Insn) -> Reg {
 const NO_SUM: &str =
     ", only a 64-bit add or sub of a number moves a pointer, into the stack or the datagram";
 
+/// What ends the reason of a number to which a pointer is added.
+const EXCHANGED: &str = ", the pointer has to be the left operand";
+
 /// Returns why a sum or a difference isn't known to be a pointer.
-fn why_no_sum(pointer: AbstractValue<Interval>, by: AbstractValue<Interval>) -> &'static str {
+fn why_no_sum(
+    op: AluOp,
+    pointer: AbstractValue<Interval>,
+    by: AbstractValue<Interval>,
+) -> &'static str {
     match (pointer, by) {
+        (AbstractValue::Scalar(_), AbstractValue::Stack(_)) if op == AluOp::Add => EXCHANGED,
+        (AbstractValue::Scalar(_), AbstractValue::Data { .. }) if op == AluOp::Add => EXCHANGED,
         (AbstractValue::Stack(_), AbstractValue::Scalar(by)) => {
             let Bounds { lo, hi } = by.bounds();
             if lo == hi {
@@ -100,7 +109,7 @@ fn push_arithmetic(note: &mut String, state: &State, insn: Insn) -> Result<(), A
             let by = value_of(state, width, operand);
             push_operands(note, op, width, (Known(pointer), Known(by)))?;
             note.push_str(match (op, width) {
-                (AluOp::Add | AluOp::Sub, Width::W64) => why_no_sum(pointer, by),
+                (AluOp::Add | AluOp::Sub, Width::W64) => why_no_sum(op, pointer, by),
                 _ => NO_SUM,
             })
         }

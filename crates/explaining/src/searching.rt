@@ -56,7 +56,8 @@ fn is_first_step(made: &mut [u32], slot: usize) -> bool {
 impl Trail {
     /// Begins a search: one state waits, to which no other one leads.
     fn new(alloc: Global) -> Result<Trail, AllocError>
-        ensures { IfOk result (λ t. (code : List Insn) → IsTrail code (first_pending ∷ []) t) }
+        ensures trail { IfOk result (λ t. (code : List Insn) → IsTrail code (first_pending ∷ []) t) }
+        ensures path { IfOk result (λ t. t.path.items ≡ []) }
     {
         Ok(Trail {
             path: Vec::new(alloc),

@@ -294,7 +294,7 @@ static ACCESSES: [Row; 21] = [
 ];
 
 /// Programs that are refused with V11 to V20, V17 aside, and with V1 to V4.
-static OTHERS: [Row; 23] = [
+static OTHERS: [Row; 26] = [
     // V11
     Row {
         text: "mul r1, 2\nexit",
@@ -331,6 +331,36 @@ static OTHERS: [Row; 23] = [
             "0 ldxdw r2, [r1+0]        ; r2 datagram+0",
             "1 ldxdw r3, [r1+24]       ; r3 0..18446744073709551615",
             "2 add r2, r3              ; refused V11: add of datagram+0 and 0..18446744073709551615, which may lead more than 1048576 bytes away",
+        ],
+    },
+    Row {
+        text: "mov r2, r10\nmov r3, 8\nadd r3, r2\nexit",
+        slot: None,
+        status: 1,
+        lines: &[
+            "0 mov r2, r10             ; r2 stack+0",
+            "1 mov r3, 8               ; r3 =8",
+            "2 add r3, r2              ; refused V11: add of =8 and stack+0, the pointer has to be the left operand",
+        ],
+    },
+    Row {
+        text: "ldxdw r2, [r1+0]\nldxdw r3, [r1+16]\nadd r3, r2\nexit",
+        slot: None,
+        status: 1,
+        lines: &[
+            "0 ldxdw r2, [r1+0]        ; r2 datagram+0",
+            "1 ldxdw r3, [r1+16]       ; r3 0..65507",
+            "2 add r3, r2              ; refused V11: add of 0..65507 and datagram+0, the pointer has to be the left operand",
+        ],
+    },
+    Row {
+        text: "mov r2, r10\nmov r3, 8\nsub r3, r2\nexit",
+        slot: None,
+        status: 1,
+        lines: &[
+            "0 mov r2, r10             ; r2 stack+0",
+            "1 mov r3, 8               ; r3 =8",
+            "2 sub r3, r2              ; refused V11: sub of =8 and stack+0, only a 64-bit add or sub of a number moves a pointer, into the stack or the datagram",
         ],
     },
     Row {

@@ -1,4 +1,4 @@
-use Rattle.std.proofs.Common.{◌≡◌, ℕ, ◌+◌, ◌-◌, List, ◌++◌, length, take, Result, Err, sym, ◌∙◌, subst, arith}
+use Rattle.std.proofs.Common.{◌≡◌, ℕ, ◌+◌, ◌-◌, List, ◌++◌, length, take, Result, Err, sym, ap, ◌∙◌, subst, arith}
 use Rattle.std.specs.Prelude.{All, IfErr, replicate}
 use Rattle.insn.specs.declared.instruction.Insn.{Insn}
 use Rattle.interval.specs.laws.Interval.{interval_precise}
@@ -22,18 +22,18 @@ returns-in-Err-clause-verdict g c =
     subst (λ (r : Result Verified Refusal). IsVerdict c.args.code.now c.args.budget r) (sym c.ended.ensures.verdict) (real_verdict interval_ops LiesBetween interval_precise c.args.code.now c.args.budget (Err c.in-Err.refusal) c.in-Err.ensures.verdict)
 
 pub returns-in-Err-clause-path : goal.returns-in-Err-clause-path
-returns-in-Err-clause-path g c = subst (λ (v : _). IsStatePath interval_ops c.args.code.now v.items) (sym c.ended.ensures.path) (c.in_ok-trail.ensures c.args.code.now).path
+returns-in-Err-clause-path g c = subst (λ (v : _). IsStatePath interval_ops c.args.code.now v.items) (sym c.ended.ensures.path) (c.in_ok-trail.ensures.trail c.args.code.now).path
 
 pub returns-in-Err-clause-refused : goal.returns-in-Err-clause-refused
 returns-in-Err-clause-refused g c =
-    subst (λ (r : Result Verified Refusal). IfErr r (ShowsRefusal c.args.code.now c.ended.result.path.items)) (sym c.ended.ensures.verdict) (shown_start c.args.code.now c.ended.result.path.items c.in-Err.refusal c.in-Err.ensures.refused)
+    subst (λ (r : Result Verified Refusal). IfErr r (ShowsRefusal c.args.code.now c.ended.result.path.items)) (sym c.ended.ensures.verdict) (shown_start c.args.code.now c.ended.result.path.items c.in-Err.refusal (ap (λ (v : _). v.items) c.ended.ensures.path ∙ c.in_ok-trail.ensures.path) c.in-Err.ensures.refused)
 
 pub returns-in-Err-clause-reached : goal.returns-in-Err-clause-reached
-returns-in-Err-clause-reached g c = subst (λ (v : _). All (EndsStatePath interval_ops c.args.code.now) v.items) (sym c.ended.ensures.firsts) (c.in_ok-trail.ensures c.args.code.now).firsts
+returns-in-Err-clause-reached g c = subst (λ (v : _). All (EndsStatePath interval_ops c.args.code.now) v.items) (sym c.ended.ensures.firsts) (c.in_ok-trail.ensures.trail c.args.code.now).firsts
 
 pub units-init : goal.units-init
 units-init g c = record {
-  trail = subst (λ (ws : List (Pending Interval)). IsTrail c.args.code.now ws c.in_ok-trail.trail) (sym c.in-Ok.ensures.waits) (c.in_ok-trail.ensures c.args.code.now);
+  trail = subst (λ (ws : List (Pending Interval)). IsTrail c.args.code.now ws c.in_ok-trail.trail) (sym c.in-Ok.ensures.waits) (c.in_ok-trail.ensures.trail c.args.code.now);
   code_is = c.in-Ok.ensures.started.code_is;
   budget_is = c.in-Ok.ensures.started.budget_is;
   count = omega (arith, c.in-Ok.ensures.started.none_made);
