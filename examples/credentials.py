@@ -2,7 +2,20 @@
 
 import base64, hashlib, hmac, json, pathlib, sys, time
 
-secret, url, *name = sys.argv[1:]
-username = ":".join([str(int(time.time()) + 86_400), *name])
-digest = hmac.new(pathlib.Path(secret).read_bytes().rstrip(b"\n"), username.encode(), hashlib.sha1).digest()
-print(json.dumps([{"urls": url, "username": username, "credential": base64.b64encode(digest).decode()}]))
+DAY = 86_400  # in seconds
+
+
+def read_secret(path):
+    """Returns the secret that a file has, without the end of its line."""
+    return pathlib.Path(path).read_bytes().rstrip(b"\n")
+
+
+def ice_servers(secret, url, *name, lifetime=DAY):
+    """Returns the ICE servers of a page: the URL, a name that expires after a lifetime in seconds, and its password."""
+    username = ":".join([str(int(time.time()) + lifetime), *name])
+    digest = hmac.new(secret, username.encode(), hashlib.sha1).digest()
+    return [{"urls": url, "username": username, "credential": base64.b64encode(digest).decode()}]
+
+
+if __name__ == "__main__":
+    print(json.dumps(ice_servers(read_secret(sys.argv[1]), *sys.argv[2:])))
