@@ -18,6 +18,7 @@ import sys
 import tempfile
 import threading
 import time
+import urllib.request
 
 from lib.program import TOP, build, finish, preloadable
 from lib.rules import XOR_RELAYED_ADDRESS, address_in
@@ -33,6 +34,11 @@ SECRET = "between-the-web-and-the-relay"
 # chance; both are refused. So a client that isn't refused is waited for, this often.
 TRIES = 400
 PASSED_OVER = "not installed"
+# what the page of examples/web shows with the relay's secret, and how it begins with another one
+RELAYED = re.compile(
+    r"From a relay candidate to another a message took \d+\.\d ms there and back\. "
+    r"From a relay candidate to an address of this machine a message took \d+\.\d ms there and back\.")
+NOT_RELAYED = "No relay candidate came: the server refuses the credentials, "
 
 
 def ran(words, seconds=60):
@@ -140,14 +146,55 @@ def pion(server, user=USER):
         return list(exchanged(server, [program, f"127.0.0.1:{server.port}", MESSAGES, *user]))
 
 
+def chromium_program():
+    """The browser that is there, by any of its names; None where none is."""
+    return shutil.which("chromium") or shutil.which("chromium-browser") or shutil.which("google-chrome")
+
+
 def chromium(server, user=USER):
     """A page in Chromium: two peer connections that may use relayed candidates alone, and a data channel."""
-    program = shutil.which("chromium") or shutil.which("chromium-browser") or shutil.which("google-chrome")
+    program = chromium_program()
     if program is None:
         return PASSED_OVER
     from chromium import exchange
     found = exchange(program, f"turn:127.0.0.1:{server.port}", *user, MESSAGES)
     return wanted("messages", found, {"returned": MESSAGES, "relayed": True})
+
+
+@contextlib.contextmanager
+def web_server(server, secret):
+    """The server of `examples/web` with a file of a secret, for the URL of a relay; the address of its page."""
+    words = [sys.executable, TOP / "examples" / "web" / "server.py", secret, f"turn:127.0.0.1:{server.port}", "0"]
+    with subprocess.Popen(words, stdout=subprocess.PIPE, stderr=subprocess.DEVNULL, text=True) as process:
+        try:
+            yield process.stdout.readline().strip()
+        finally:
+            process.terminate()
+
+
+def web_page(server):
+    """The page of `examples/web` in Chromium, from the server beside it: with the relay's secret, and with another one."""
+    program = chromium_program()
+    return PASSED_OVER if program is None else shown_by_page(server, program)
+
+
+def shown_by_page(server, program):
+    """Yields what the page of `examples/web` shows otherwise than it should."""
+    from chromium import shown
+    with web_server(server, server.secret) as page:
+        with urllib.request.urlopen(f"{page}ice-servers") as answer:
+            yield from wanted("Cache-Control", answer.headers["Cache-Control"], "no-store")
+        outcome, candidates, errors = shown(program, page)
+    slots = [f"{server.first_port + slot}" for slot in range(SLOTS)]
+    relayed = [address == "127.0.0.1" and port in slots for kind, _, address, port in candidates if kind == "relay"]
+    if not relayed or not all(relayed) or errors or not RELAYED.fullmatch(outcome):
+        yield f"with the secret of the relay: {outcome} {candidates} {errors}"
+    another = server.secret.with_name("another")
+    another.write_text("another secret\n", encoding="utf-8")
+    with web_server(server, another) as page:
+        outcome, candidates, errors = shown(program, page)
+    if not outcome.startswith(NOT_RELAYED) or {code for code, *_ in errors} != {"401"}:
+        yield f"with another secret: {outcome} {candidates} {errors}"
 
 
 CLIENTS = [
@@ -164,6 +211,7 @@ CLIENTS = [
     ("pion with credentials that expire", expiring(pion)),
     ("chromium", chromium),
     ("chromium with credentials that expire", expiring(chromium)),
+    ("the page of examples/web in chromium", web_page),
 ]
 
 

@@ -1,5 +1,8 @@
-"""A page in headless Chromium, driven through DevTools by a pipe: `peers.html` sends itself messages over a relay."""
+"""A page in headless Chromium, driven through DevTools by a pipe: `peers.html`, which sends itself messages over a relay, or
+the page of `examples/web`.
+"""
 
+import contextlib
 import fcntl
 import json
 import os
@@ -63,23 +66,42 @@ class Browser:
                 return answer["result"]
 
 
-def exchange(program, url, username, password, count):
-    """Returns what the page saw of messages over the relay with this URL, of a user."""
+@contextlib.contextmanager
+def opened(program, url):
+    """A page in a browser of its own: what evaluates an expression in it, once the page has defined a name."""
     with tempfile.TemporaryDirectory(ignore_cleanup_errors=True) as profile:
         browser = Browser(program, profile)
         try:
             target = browser.ask("Target.createTarget", url="about:blank")["targetId"]
             session = browser.ask("Target.attachToTarget", targetId=target, flatten=True)["sessionId"]
             browser.ask("Page.enable", session)
-            browser.ask("Page.navigate", session, url=PAGE.as_uri())
-            loaded = "while (!self.exchange) await new Promise((go) => setTimeout(go, 10));"
-            call = f'(async () => {{ {loaded} return exchange("{url}", "{username}", "{password}", {count}); }})()'
-            found = browser.ask("Runtime.evaluate", session, expression=call, awaitPromise=True, returnByValue=True)
-            return found["result"].get("value")
+            browser.ask("Page.navigate", session, url=url)
+
+            def evaluate(name, expression):
+                loaded = f'while (typeof {name} === "undefined") await new Promise((go) => setTimeout(go, 10));'
+                call = f"(async () => {{ {loaded} return {expression}; }})()"
+                found = browser.ask("Runtime.evaluate", session, expression=call, awaitPromise=True, returnByValue=True)
+                return found["result"].get("value")
+
+            yield evaluate
         finally:
             browser.process.terminate()
             browser.process.wait(10)
 
 
+def exchange(program, url, username, password, count):
+    """Returns what `peers.html` saw of messages over the relay with this URL, of a user."""
+    with opened(program, PAGE.as_uri()) as evaluate:
+        return evaluate("exchange", f'exchange("{url}", "{username}", "{password}", {count})')
+
+
+def shown(program, url):
+    """Returns what the page of `examples/web` at a URL shows once it is done: its outcome, and the rows of each table."""
+    rows = 'Array.from(document.getElementById(name).rows, (row) => Array.from(row.cells, (cell) => cell.textContent))'
+    tables = f'["candidates", "errors"].map((name) => {rows})'
+    with opened(program, url) as evaluate:
+        return evaluate("trial", f'trial.then(() => [document.getElementById("outcome").textContent, ...{tables}])')
+
+
 if __name__ == "__main__":
-    print(json.dumps(exchange(sys.argv[1], sys.argv[2], int(sys.argv[3]))))
+    print(json.dumps(exchange(*sys.argv[1:5], int(sys.argv[5]))))
