@@ -16,6 +16,7 @@ import shutil
 import subprocess
 import sys
 import tempfile
+import time
 
 from lib.program import TOP, finish, run
 
@@ -26,6 +27,8 @@ JOIN = re.compile(r"^(?:\$ )?cat (.*) > (\S+)\n", re.MULTILINE)
 # the files that stand for those that a reader would have made, by the last part of the name
 STAND_INS = {".s": "relay/client.s", ".events": "session.events", "users": "users.txt"}
 SECRET = "a secret of a page"
+# how often a server is started where a port of its slots is taken, which Linux may have given to any socket
+TRIES = 5
 OPTIONS = {"--port": "0", "--listen": "127.0.0.1", "--metrics": "relayd.prom"}
 
 
@@ -63,12 +66,22 @@ def runnable(words, folder):
     return [*found, "--rounds", "0"] if words[0] == "serve" else found
 
 
+def tried(words, folder):
+    """Runs a command, again where another process has a port of its server for a moment, and returns its status and output."""
+    for _ in range(TRIES):
+        found = run(words, cwd=folder)
+        if "cannot bind" not in found[2]:
+            break
+        time.sleep(0.5)
+    return found
+
+
 def failures_of_texts(text, folder):
     """Yields the commands of relayd in a block `text` that fail."""
     for command in re.split(r"\n| && | \| ", join(text, folder).replace("$ ", "").strip()):
         if command.startswith("./relayd "):
             words = runnable(shlex.split(command)[1:], folder)
-            status, out, err = run(words, cwd=folder)
+            status, out, err = tried(words, folder)
             if status:
                 yield f"{command}: {out}{err}"
 
