@@ -75,6 +75,10 @@ BEYOND = {
             ("/usr/lib/systemd/system/relayd@.service", "The unit of a process, whose instance is its first relayed port."),
             ("/usr/lib/systemd/system/relayd.target", "The unit that starts a process for each core."),
             ("/run/relayd/PORT.prom", "The metrics of the process of that first relayed port."))),
+    "check": Beyond("docs/DEPLOYMENT.md", examples=(
+        ("relayd check 203.0.113.1:3478", "Asks a server for the address of this machine as the server sees it."),
+        ("relayd check 203.0.113.1:3478 --user ann:secret",
+         "Makes an allocation, too, and sends a datagram over it to this machine and back."))),
 }
 
 

@@ -2,7 +2,7 @@
 # shellcheck shell=bash
 _relayd() {
   local word=${COMP_WORDS[COMP_CWORD]} before=${COMP_WORDS[COMP_CWORD-1]}
-  local commands="assemble order disassemble verify explain trace replay serve help"
+  local commands="assemble order disassemble verify explain trace replay serve check help"
   # the options, those whose value is a file, those with another value, and whether the arguments are files
   local options="--help --version" files="" values="" arguments=""
   case ${COMP_WORDS[1]} in
@@ -33,19 +33,24 @@ _relayd() {
     arguments="files"
     ;;
   replay)
-    options="--realm --user --users --secret --slots --relay-ip --relay-ip6 --first-port --client --peer --same-as --nonce \
-      --why --confine --help"
+    options="--nonce --why --confine --realm --user --users --secret --slots --relay-ip --relay-ip6 --first-port --client \
+      --peer --same-as --help"
     files="--users --secret --client --peer"
-    values="--realm --user --slots --relay-ip --relay-ip6 --first-port --same-as --nonce"
+    values="--nonce --realm --user --slots --relay-ip --relay-ip6 --first-port --same-as"
     arguments="files"
     ;;
   serve)
-    options="--port --listen --listen6 --buffer --reuse-port --deny --allow --unconfined --rounds --nonce-lifetime --stats \
-      --metrics --record --record-limit --log --realm --user --users --secret --slots --relay-ip --relay-ip6 \
-      --first-port --client --peer --same-as --help"
-    files="--metrics --record --users --secret --client --peer"
-    values="--port --listen --listen6 --buffer --deny --allow --rounds --nonce-lifetime --stats --record-limit --realm \
-      --user --slots --relay-ip --relay-ip6 --first-port --same-as"
+    options="--port --options --listen --listen6 --buffer --reuse-port --deny --allow --relayed-ports --unconfined --rounds \
+      --nonce-lifetime --stats --metrics --record --record-limit --log --realm --user --users --secret --slots \
+      --relay-ip --relay-ip6 --first-port --client --peer --same-as --help"
+    files="--options --metrics --record --users --secret --client --peer"
+    values="--port --listen --listen6 --buffer --deny --allow --relayed-ports --rounds --nonce-lifetime --stats \
+      --record-limit --realm --user --slots --relay-ip --relay-ip6 --first-port --same-as"
+    ;;
+  check)
+    options="--user --help"
+    values="--user"
+    arguments="files"
     ;;
   esac
   # bash takes --option=value apart at the sign

@@ -23,7 +23,7 @@ VERIFIED = [(0, r"accepted \d+ instructions\n", ""), (1, r"refused [EV]\d+( argu
 ASSEMBLED = [(0, r"wrote \d+ bytes\n", ""), (1, "", r"refused L\d( at line \d+)?\n"), UNREAD]
 ANSWERS = r"((-|c [0-9.:]+ [0-9a-f]+|p \d+ [0-9.:]+ [0-9a-f]+)\n)*"
 REPLAYED = [(0, ANSWERS, ""), (1, ANSWERS, r"refused line \d+\n")]
-CONFIGURED = [(0, ANSWERS, ""), (1, "", r"refused users( at line \d+)?\n"), UNREAD]
+CONFIGURED = [(0, ANSWERS, ""), (1, "", r"refused users( at line \d+: [a-z0-9 ']+)?\n"), UNREAD]
 SHARED = [(0, ANSWERS, ""), (1, "", r"refused secret( at line 2)?\n"), UNREAD]
 
 

@@ -1,6 +1,7 @@
 """Runs the built relayd's `serve` with clocks that stand still until they are set.
 
-Moments are the system's clock at the start and what has passed since, whatever the clock is set to afterwards. What ends at a
+Moments are the system's clock at the start and what has passed since, whatever the clock is set to afterwards; names that say
+when they expire do so by the clock as it is set. What ends at a
 moment, or is done from time to time, is there one nanosecond before and not there at it: allocations, channels, permissions and
 nonces by their lifetimes, the files of programs and the counters each second. It needs gcc.
 """
@@ -18,7 +19,7 @@ import tempfile
 import refusals
 from memory import over_additions
 from lib.program import assembled, explained, preloadable, run_parts, shipped
-from lib.rules import BINDING, CREATE_PERMISSION, NONCE, REFRESH
+from lib.rules import BINDING, CREATE_PERMISSION, LIFETIME, NONCE, REFRESH, password_of
 from lib.server import (
     BAD, DISCARD, Client, Server, address_of, channel_data, code_of, comes, counters, passed, put, samples_of,
     udp_socket, wanted)
@@ -26,6 +27,8 @@ from lib.server import (
 SECOND = 10**9
 # three quarters of a second after a whole one, whose half and double are other moments; and the time since a start
 REAL, MONOTONIC = 1_700_000_000 * SECOND + SECOND * 3 // 4, 1_000 * SECOND
+# what a web application shares with the server
+SECRET = b"between the web and the relay"
 # the seconds of a moment, of which the last quarter is gone when the clocks begin
 WHOLE = REAL // SECOND * SECOND
 # `mov r0, 1` and `exit`: all is passed on to the rules, which discard what peers send. As long as DISCARD
@@ -154,6 +157,41 @@ def clocks_that_are_set(clocks):
             clocks.become(server, WHOLE + 300 * SECOND)
             yield from wanted(f"one 300 seconds later, with the clock {what}", sent(client, peer), False)
             yield from wanted(f"a refresh with the clock {what}", code_of(client.signed(REFRESH, [])), 0)
+
+
+def names_that_expire(clocks):
+    """Yields what is otherwise than that names expire by the system's clock as it is set, and that each time it is set by more than
+    a second is reported once and ends the recording."""
+    secret, record = clocks.folder / "secret", clocks.folder / "record"
+    secret.write_bytes(SECRET)
+    # by how many seconds the clock is set from one row to the next, and the codes of a name that expires in a minute by the first of
+    # these clocks: of its own allocation that is refreshed, and of another client
+    rows = [(0, (0, 0)), (1, (0, 0)), (55, (0, 0)), (3, (0, 401)), (86_400, (0, 401)), (-86_500, (0, 0)), (730 * 86_400, (0, 401))]
+    name = f"{WHOLE // SECOND + 60}:ann"
+    password = password_of(SECRET, name.encode()).decode()
+    said, real, untaken = [], REAL, 0
+    options = ["--secret", str(secret), "--record", str(record), "--log"]
+    clocks.set(REAL, MONOTONIC)
+    with Server(*options, env=clocks.environment) as server, Client(server, name, password) as own:
+        yield from wanted("an allocation of the name", code_of(own.allocate()), 0)
+        for seconds, codes in rows:
+            real += seconds * SECOND
+            clocks.set_real(server, real)
+            clocks.pass_by(server, SECOND)
+            real += SECOND
+            clocks.set_real(server, real)
+            untaken += seconds
+            if abs(untaken) > 1:
+                said.append(f"clock set {'forward' if untaken > 0 else 'back'} by {abs(untaken)} seconds\n")
+                untaken = 0
+            with Client(server, name, password) as other:
+                found = code_of(own.signed(REFRESH, [])), code_of(other.allocate())
+                yield from wanted(f"codes with the clock set by {seconds} s", found, codes)
+                other.signed(REFRESH, [(LIFETIME, bytes(4))])
+            lines = server.printed().splitlines(True)
+            yield from wanted(f"lines of the clock set by {seconds} s", [line for line in lines if line.startswith("clock")], said)
+        yield from wanted("ends of the recording", server.printed().count(f"recording to {record} ended: the clock was set\n"), 1)
+        yield from wanted("refusals", server.printed().count(f'user "{name}", expired\n'), 2 * sum(other == 401 for _, (_, other) in rows))
 
 
 # ---- what is done from time to time
@@ -363,7 +401,7 @@ def refused_programs(clocks):
 
 def main():
     """Runs every part, and returns the exit status."""
-    parts = [lifetimes, clocks_that_are_set, nonces, lines, counted, metrics, replaced_programs, refused_programs]
+    parts = [lifetimes, clocks_that_are_set, names_that_expire, nonces, lines, counted, metrics, replaced_programs, refused_programs]
     with tempfile.TemporaryDirectory() as name:
         return run_parts("clocks", parts, Clocks(pathlib.Path(name)))
 

@@ -40,7 +40,7 @@ PASS = bytes.fromhex("b700000001000000 9500000000000000")
 # the options of files that are read again, each with good bytes, how many it may have, and what is reported of one that isn't there
 ODD_FILES = [("client", PASS, 32_768, ""), ("peer", PASS, 32_768, ""), ("users", b"ann:a\n", 1 << 20, "not readable")]
 # a burst, and the length of each of its datagrams: more than the system's usual buffers hold
-BURST, LENGTH = 1_000, 1_200
+BURST, LENGTH = 400, 1_200
 # the sessions of two processes that serve one port, each with two channels
 SESSIONS = 64
 
@@ -95,6 +95,21 @@ def never_sent():
         expected = counters(from_clients=3 + 2 * len(at), to_peers=1, granted=1 + len(at), challenged=1, denied=len(at))
         if not server.awaited(expected):
             yield f"other counters: {server.printed()!r}"
+
+
+def own_services():
+    """Yields which ports of a server's own address are sent to that aren't relayed ones, and which aren't where an option names them."""
+    own = bytes([203, 0, 113, 9])
+    for words, denied, faults in (([], 3, 0), (["--relayed-ports", "1-65535"], 0, 3)):
+        with Server("--stats", "1", "--relay-ip", "203.0.113.9", *words) as server, Client(server) as client:
+            client.allocate()
+            yield from wanted("a permission for the server's own address", permit(client, (own, 22)), 0)
+            for port in (22, server.first_port - 1, server.first_port + server.slots):
+                client.send_to((own, port), b"sent")
+            # a socket of loopback can't send to this address
+            expected = counters(from_clients=6, granted=2, challenged=1, denied=denied, send_faults=faults)
+            if not server.awaited(expected):
+                yield f"{words}, other counters: {server.printed()!r}"
 
 
 def loopback_behind_all_addresses():
@@ -311,8 +326,8 @@ def shared_port():
 
 def main():
     """Runs every part, and returns the exit status."""
-    parts = [denied_peers, never_sent, loopback_behind_all_addresses, loops, unread_errors, few_fault_lines, odd_files, bursts,
-             few_descriptors, shared_port]
+    parts = [denied_peers, never_sent, own_services, loopback_behind_all_addresses, loops, unread_errors, few_fault_lines, odd_files,
+             bursts, few_descriptors, shared_port]
     return run_parts("hostile", parts)
 
 

@@ -19,6 +19,7 @@ import tempfile
 import time
 
 from lib.program import TOP, finish, run
+from lib.server import Server
 
 PAGES = [TOP / "README.md", *sorted((TOP / "docs").glob("*.md")), *sorted((TOP / "crates").glob("*/README.md"))]
 BLOCK = re.compile(r"^```(asm|console|sh|text)\n(.*?)^```$", re.MULTILINE | re.DOTALL)
@@ -76,10 +77,20 @@ def tried(words, folder):
     return found
 
 
+def failures_of_check(words):
+    """Yields what a check says of a server of loopback, with the user of a page, in place of the server of the page."""
+    with Server(users=words[2:]) as server:
+        status, out, err = run(["check", f"127.0.0.1:{server.port}", *words[2:]])
+    if status:
+        yield f"{shlex.join(words)}: {out}{err}"
+
+
 def failures_of_texts(text, folder):
     """Yields the commands of relayd in a block `text` that fail."""
     for command in re.split(r"\n| && | \| ", join(text, folder).replace("$ ", "").strip()):
-        if command.startswith("./relayd "):
+        if command.startswith("./relayd check "):
+            yield from failures_of_check(shlex.split(command)[1:])
+        elif command.startswith("./relayd "):
             words = runnable(shlex.split(command)[1:], folder)
             status, out, err = tried(words, folder)
             if status:

@@ -325,7 +325,7 @@ def users():
         client = stack.enter_context(HeardClient(server, heard))
         yield from wanted("Allocate", code_of(client.allocate()), 0)
         put(file, b"ann\n")
-        server.awaited("line 1 has no colon")
+        server.awaited("line 1: no colon")
         yield from wanted("Refresh while a list is refused", code_of(client.signed(REFRESH, [])), 0)
         before = list(heard.lines)
         put(file, b"ann:b\n")

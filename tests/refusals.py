@@ -17,10 +17,10 @@ ROW = re.compile(r"^\| ([A-Z]\d+) \|.*\|([^|]*)\|$", re.MULTILINE)
 EXPLAINED = re.compile(r"^\| ([EV]\d+) \|.*\| ([^|]+) \|[^|]*\|$", re.MULTILINE)
 # a line, or lines in parentheses, and how often they are repeated
 LINES = re.compile(r"(?:`([^`]*)`|\(((?:`[^`]*` ?)+)\))(?: ×([\d,]+))?")
-TESTED = re.compile(r'code: "(\w+)",\s*hex: "([^"]*)"')
-TEST = TOP / "crates" / "message_tests" / "src" / "smallest.rt"
-# the codes of memory and of room, for which no input is smallest
-WITHOUT = {"L6", "E8", "V19", "S6"}
+TESTED = re.compile(r"^code(?:-of-lifetime)? (\S+) -> (\w+)$", re.MULTILINE)
+TEST = TOP / "crates" / "rows_turn" / "stdin"
+# the codes of memory and of room, and of a name whose time has passed, for which no input is smallest
+WITHOUT = {"L6", "E8", "V19", "S6", "C6"}
 
 
 def lines_of(cell):
@@ -88,14 +88,15 @@ def failures_of_explanations(folder):
 
 def failures_of_rows(folder, rows):
     """Yields the codes of texts and of messages that are not met by their input."""
-    tested = {code: bytes.fromhex(digits) for code, digits in TESTED.findall(TEST.read_text(encoding="utf-8"))}
+    rows_of_test = TESTED.findall(TEST.read_text(encoding="utf-8"))
+    tested = {code: bytes.fromhex(digits.strip("-")) for digits, code in rows_of_test}
     for code, cell in rows:
         lines = lines_of(cell)
         if code in WITHOUT or code[0] in "EV":
             continue
         if code[0] in "SAC":
             if tested.get(code) != bytes.fromhex("".join(lines)):
-                yield f"{code}: other bytes in {TEST.name}"
+                yield f"{code}: other bytes in the rows of {TEST.parent.name}"
             continue
         printed = assembled(folder, lines, folder / "file.bpf")
         if not re.match(rf"refused {code}( |\n)", printed):
@@ -108,7 +109,7 @@ def main():
     with tempfile.TemporaryDirectory() as name:
         folder = pathlib.Path(name)
         failures = [*failures_of_rows(folder, rows), *failures_of_programs(folder), *failures_of_explanations(folder)]
-    if len(rows) != 46:
+    if len(rows) != 47:
         failures.append(f"{len(rows)} codes")
     return finish(failures, f"refusals: {len(rows)} codes, {len(failures)} failures")
 

@@ -1,11 +1,11 @@
 """Compares the run and the trace of programs by the built run_agrees, over seeded datagrams.
 
-The programs are those of verdicts.py, kernel_vectors.json and kernel_verdicts.json, the texts in the rows of
-program_tests, the examples, and the shipped programs, of which each bit and seeded pairs of bits are flipped too. A
-text in the rows that the assembler refuses is passed over, and counted. Each program that is accepted runs over
-datagrams that are empty, short and as long as they may be, some of them ChannelData and Send indications, with contexts
-of both sides, and with helpers that look up, find nothing, or give drawn answers. Each with one flipped bit also runs
-over the datagrams of a worked session.
+The programs are those of verdicts.py, kernel_vectors.json and kernel_verdicts.json, those in the rows of rows_bpf, the
+examples, and the shipped programs, of which each bit and seeded pairs of bits are flipped too. A program in the rows
+that the assembler refuses is passed over, and counted. Each program that is accepted runs over datagrams that are
+empty, short and as long as they may be, some of them ChannelData and Send indications, with contexts of both sides, and
+with helpers that look up, find nothing, or give drawn answers. Each with one flipped bit also runs over the datagrams
+of a worked session.
 """
 
 import pathlib
@@ -21,7 +21,7 @@ from verdicts import rows
 FOLDER = TOP / "crates" / "run_agrees"
 PROGRAM = FOLDER / "out" / "run_agrees"
 EXAMPLES = TOP / "examples"
-ROWS = TOP / "crates" / "program_tests" / "src"
+ROWS = TOP / "crates" / "rows_bpf" / "stdin"
 # the datagrams of each program, and of each with flipped bits
 DATAGRAMS, FEW_DATAGRAMS = 1_000, 20
 # the datagrams of the worked session, over which a program with one flipped bit runs too
@@ -35,9 +35,10 @@ OTHERS = [
     ["relay/refuse_network", "relay/peer"],
     ["relay/at_most_1200_bytes", "relay/peer"],
 ]
-# a string in the rows that ends as a program does, and the end of a line in it that goes on in the next one
-TEXT = re.compile(r'"((?:[^"\\]|\\.)*?exit)"', re.DOTALL)
-CONTINUED = re.compile(r"\\\n\s*")
+# a name in the rows, and its text; such a name in a row; and a row with a program that ends with an exit and is written out
+NAMED = re.compile(r"let (\w+) = (.*)")
+NAME = re.compile(r"\$([A-Z]\w*)")
+ROW = re.compile(r"[a-z_]+ (?:[^;|\"]*: )?([^|\"{]*exit) -> .*")
 # the status of a text that is refused
 REFUSED = 1
 COUNT = re.compile(r"(accepted|[EV]\d+): (\d+)\n")
@@ -66,10 +67,12 @@ def text_of(names):
 
 
 def texts_of_rows():
-    """Returns the texts in the rows of program_tests, each once."""
-    sources = [path.read_text(encoding="utf-8") for path in sorted(ROWS.glob("**/*.rt"))]
-    found = [CONTINUED.sub("", text).replace("\\n", "\n") for source in sources for text in TEXT.findall(source)]
-    return [f"{text}\n" for text in dict.fromkeys(found)]
+    """Returns the texts of the programs in the rows of rows_bpf that end with an exit, each once."""
+    lines = [line for line in ROWS.read_text(encoding="utf-8").splitlines() if not line.startswith("#")]
+    names = dict(found.groups() for found in map(NAMED.fullmatch, lines) if found)
+    written = [NAME.sub(lambda found: names[found[1]], line) for line in lines]
+    programs = [found[1] for found in map(ROW.fullmatch, written) if found]
+    return [f"{program}\n".replace("; ", "\n") for program in dict.fromkeys(programs)]
 
 
 def programs(folder, shipped):

@@ -36,7 +36,7 @@ CLIENTS, DATAGRAMS, BATCH = 10, 200_000, 40
 # server verifies for a quarter of a millisecond between two turns, and other processes take their time too. A machine that
 # stops for a moment makes a round trip late once; a server that is held up makes one late at each attempt.
 SLOW = ("sums in the last register", "marks with a chain", "64 pointers, 32 states, and 4,000 jumps",
-        "products of primes in two registers, 15 forks")
+        "products that four registers share, 14 forks")
 SLOWEST = "pointers on the stack"
 ROUND_TRIPS, MOST_TRIPS, LATE, ATTEMPTS = 10_000, 1_000_000, 0.1, 3
 # The receives that fail, counted from the start. With two slots the first three are one at each socket, where nothing
@@ -48,17 +48,19 @@ BATCH_OF_REQUESTS, FAILED_AHEAD = 10, (15, 19, 25)
 # A receive amid the first turn of a batch of requests: after the first three come two for each of the three requests that
 # make an allocation with a channel, and then those of the batch.
 STOPPED_RECEIVE = 3 + 2 * 3 + 32
+# datagrams of strangers that fill a buffer, and those of a client that come after them
+STRANGE, SENT_AMID = 5_000, 20
 # the Data indications whose transaction ids are looked at
 INDICATIONS = 40
 # whether data of a client, and data of its peer, pass
 BOTH, NEITHER = (True, True), (False, False)
 # lists that are refused where a user u comes before them, each with its reason; of each the user dan has another password
 REFUSED_USERS = [
-    (b"dan:e\n\n# bob is next\nbob\n", "line 4 has no colon"),
-    (b"dan:e\nbob:b\ndan:d\n", "refused users"),
-    (b"dan:e\nu:p\n", "refused users"),
-    (b"dan:e\nbob:\n", "refused users"),
-    (b"dan:e\n" + b"".join(b"%d:b\n" % number for number in range(63)), "refused users"),
+    (b"dan:e\n\n# bob is next\nbob\n", "line 4: no colon"),
+    (b"dan:e\nbob:b\ndan:d\n", "line 3: a name that an earlier user has"),
+    (b"dan:e\nu:p\n", "line 2: a name that an earlier user has"),
+    (b"dan:e\nbob:\n", "line 2: a password that is empty"),
+    (b"dan:e\n" + b"".join(b"%d:b\n" % number for number in range(63)), "line 64: more than 64 users"),
     (b"dan:e\nbob:\xff\n", "not UTF-8"),
     (b"dan:e\n" + b"#" * (1 << 20), "more than 1048576 bytes"),
 ]
@@ -68,11 +70,35 @@ MOST_SLOTS, USED_SLOTS = 256, (0, 69, 254, 255)
 RELAYED = re.compile(r"received from clients (\d+) peers (\d+), relayed to peers (\d+) clients (\d+)")
 
 
+# texts of files of options, with the status and what is printed of a server that has no users besides
+NEEDS_USERS = "error: '--user <NAME:PASSWORD>', '--users <FILE>' or '--secret <FILE>' is required\n"
+OPTION_FILES = [
+    ("", 2, NEEDS_USERS),
+    ("# a comment\n\n  # and one\n", 2, NEEDS_USERS),
+    ("--slots 2\n--bufer 5\n", 1, "refused options at line 2: no option of a server\n"),
+    ("# a comment\n\nslots 2", 1, "refused options at line 3: no option of a server\n"),
+    ("--events x\n", 1, "refused options at line 1: no option of a server\n"),
+    ("--slots\n", 1, "refused options at line 1: an option without its value\n"),
+    ("--log yes\n", 1, "refused options at line 1: an option that has no value\n"),
+    ("--log\n--slots x\n", 2, "error: invalid value 'x' for '--slots <N>'\n"),
+    ("--user u:p\r\n--client  /no such/file \r\n", 3, "cannot read /no such/file\n"),
+    ("--user u:p\n--slots=2\n", 1, "refused options at line 2: no option of a server\n"),
+    ("--user u:p\n--user v:with blanks\n--slots 0\n", 1, "refused slots\n"),
+]
+
+
+def file_of_options(folder, text):
+    """The path of a file of options with a text."""
+    path = pathlib.Path(folder) / f"options{abs(hash(text))}"
+    path.write_bytes(text.encode())
+    return str(path)
+
+
 # ---- command lines and sockets
 
 def refused_lines():
     """Yields the faults that are not named, or not in their order. One port is in use."""
-    with udp_socket() as used, tempfile.TemporaryDirectory() as name:
+    with udp_socket() as used, tempfile.TemporaryDirectory() as name, tempfile.TemporaryDirectory() as options:
         taken = str(used.getsockname()[1])
         bad = pathlib.Path(name) / "bad"
         bad.write_bytes(BAD)
@@ -124,6 +150,13 @@ def refused_lines():
             ([*port, "--allow", "fd00::1/8", "--slots", "x"], 2, value("x", "--slots <N>")),
             ([*port, *USER, "--unconfined", "--same-as", "::1=::2"], 2, "error: '--same-as <A=B>' needs confined programs\n"),
             ([*port, *USER, "--same-as", "::1"], 2, value("::1", "--same-as <A=B>")),
+            *[([*port, "--options", file_of_options(options, lines)], status, err)
+              for lines, status, err in OPTION_FILES],
+            ([*port, "--options", missing], 3, f"cannot read {missing}\n"),
+            ([*port, f"--options={missing}", "--slots", "x"], 3, f"cannot read {missing}\n"),
+            *[([*port, "--relayed-ports", text, "--slots", "0"], 2, value(text, "--relayed-ports <P-P>"))
+              for text in ("49152", "49153-49152", "49152-65536", "49152-", "a-b", "1-2-3")],
+            ([*port, "--deny", "x", "--relayed-ports", "x"], 2, network("x", "--deny <NETWORK>", "not ADDRESS/BITS")),
             ([*port, *many], 2, "error: more than 64 rules of '--deny <NETWORK>' and '--allow <NETWORK>'\n"),
             ([*port, *USER, "--listen", "0.0.0.0", "--slots", "0"], 2,
              "error: '--relay-ip <A>' is required with '--listen 0.0.0.0'\n"),
@@ -406,6 +439,79 @@ def session6():
                         discarded=(0, 0, 0, 2), by_program=2)
         if not server.awaited(last):
             yield f"other counters: {server.printed()!r} in place of {last!r}"
+
+
+def data_of(client):
+    """The data of a Data indication that came to a client, and its peer."""
+    data = read(client.receive())
+    return data.first(DATA), address_in(data.first(XOR_PEER_ADDRESS), data.transaction_id)
+
+
+def hairpins():
+    """Yields what two clients of a server get otherwise of each other than from relayed addresses, where no datagram to these comes
+    to the machine: no interface has them."""
+    public, public6 = bytes([203, 0, 113, 9]), bytes.fromhex("20010db8000000000000000000000009")
+    words = ["--relay-ip", socket.inet_ntop(socket.AF_INET, public), "--listen6", "::1", "--relay-ip6", public6.hex()]
+    for ip, bound, family in ((public, "127.0.0.1", []), (public6, "::1", [FAMILY6])):
+        with contextlib.ExitStack() as stack:
+            server = stack.enter_context(Server(*words))
+            first, second = (stack.enter_context(Client(server)) for _ in range(2))
+            stranger = stack.enter_context(udp_socket(0, bound))
+            for slot, client in enumerate((first, second)):
+                answer = client.allocate(*family)
+                relayed = address_in(answer.first(XOR_RELAYED_ADDRESS), answer.transaction_id)
+                yield from wanted(f"the relayed address of slot {slot}", relayed, (ip, server.first_port + slot))
+            one, other = (ip, server.first_port), (ip, server.first_port + 1)
+            yield from wanted("a permission", code_of(first.signed(CREATE_PERMISSION, [], other)), 0)
+            yield from wanted("a channel", code_of(second.bind(one)), 0)
+            # from the address that the slots' sockets have, at a port of no slot
+            stranger.sendto(b"no peer", (bound, server.first_port + 1))
+            first.send_to(other, b"hello")
+            yield from wanted(f"ChannelData through {bound}", second.receive(), channel_data(b"hello"))
+            second.send(channel_data(b"and back"))
+            yield from wanted(f"a Data indication through {bound}", data_of(first), (b"and back", one[:1] + other[1:]))
+
+
+def sockets_of(server):
+    """How many sockets the server has open."""
+    folder = pathlib.Path(f"/proc/{server.process.pid}/fd")
+    return sum(os.readlink(name).startswith("socket:") for name in folder.iterdir())
+
+
+def own_sockets():
+    """Yields what is lost of a client with an allocation, or isn't put right, where strangers fill the buffer of the socket that they
+    send to, and where the client's machine refuses what is sent to it."""
+    with Server("--buffer", "262144") as server, Client(server) as client, udp_socket() as peer, udp_socket() as stranger:
+        before = sockets_of(server)
+        client.allocate()
+        yield from wanted("a channel", code_of(client.bind(address_of(peer))), 0)
+        yield from wanted("sockets with an allocation", sockets_of(server), before + 1)
+        with server.stopped():
+            for _ in range(STRANGE):
+                stranger.sendto(bytes(100), client.server)
+            for number in range(SENT_AMID):
+                client.send(channel_data(b"%d" % number))
+        found = [peer.recv(100) for _ in range(SENT_AMID)]
+        yield from wanted("what a client sends beside a full buffer", found, [b"%d" % number for number in range(SENT_AMID)])
+        # nobody is at the client's port for some time
+        port = client.socket.getsockname()[1]
+        client.socket.close()
+        for _ in range(SENT_AMID):
+            peer.sendto(b"nobody is there", ("127.0.0.1", server.first_port))
+        server.becomes("S")
+        client.socket = udp_socket(port)
+        client.send(channel_data(b"again"))
+        yield from wanted("after refused datagrams", peer.recv(100), b"again")
+        peer.sendto(b"and back", ("127.0.0.1", server.first_port))
+        yield from wanted("and back", client.receive(), channel_data(b"and back"))
+        yield from wanted("a Refresh to 0", code_of(client.signed(REFRESH, [(LIFETIME, bytes(4))])), 0)
+        time.sleep(1.2 * PERIOD)
+        # a server looks when something comes, and closes no socket at which a datagram waits
+        with Client(server) as other:
+            yield from wanted("another client's request", code_of(other.ask(BINDING, [])), 0)
+        yield from wanted("sockets afterwards", sockets_of(server), before)
+        yield from wanted("a request afterwards", code_of(client.ask(BINDING, [])), 0)
+        yield from wanted("faults", server.printed(), "")
 
 
 def no_family6():
@@ -762,8 +868,10 @@ def refused_users(server, path, clients, _peer, printed):
     server.awaited(printed[-1])
     time.sleep(1.2 * PERIOD)
     put(path, good)
+    printed.append(f"users as before in {path}\n")
+    server.awaited(printed[-1])
     time.sleep(1.2 * PERIOD)
-    yield from wanted("lines after the list that is set", server.printed(), "".join(printed))
+    yield from wanted("lines after the list that is put back", server.printed(), "".join(printed))
     users, reason = REFUSED_USERS[0]
     yield from put_users(server, path, users, printed, f"cannot use {path}: {reason}\n")
     yield from wanted("a Refresh at the end", code_of(dan.signed(REFRESH, [])), 0)
@@ -884,7 +992,7 @@ def many():
 def main():
     """Runs every part, and returns the exit status."""
     parts = [refused_lines, rounds, metrics_of_rounds, addresses, addresses6, default_ports, default_slots, counted_rounds, receives_of_rounds,
-             session, session6, no_family6, transactions, many_slots, faults, failed_receives, idle, idle_files, nonces,
+             session, session6, hairpins, own_sockets, no_family6, transactions, many_slots, faults, failed_receives, idle, idle_files, nonces,
              replaced_programs, slow_programs, withdrawn_programs, drained, users_that_come_and_go, turns, ahead, many]
     return run_parts("serve", parts)
 

@@ -50,6 +50,7 @@ class Subject:
 
     def measure(self, tool, flight, count, size):
         """Returns the seconds of some round trips, and those of the server's processor time."""
+        self.socket.setblocking(True)
         before = ticks(self.pid)
         words = [tool, "load", str(self.socket.fileno()), str(count), str(flight), str(size)]
         ran = subprocess.run(words, pass_fds=[self.socket.fileno()], stdout=subprocess.PIPE, text=True, check=True)
@@ -75,10 +76,10 @@ class Process:
 class Coturn:
     """coturn's server, with one user."""
 
-    def __init__(self, folder):
-        self.port, first = free_ports(1), free_ports(8)
+    def __init__(self, folder, slots=8):
+        self.port, first = free_ports(1), free_ports(slots)
         words = ["turnserver", "-n", "--log-file", "stdout", "--pidfile", f"{folder}/pid", "--userdb", f"{folder}/db",
-                 "-L", "127.0.0.1", "-E", "127.0.0.1", "-p", str(self.port), "--min-port", str(first), "--max-port", str(first + 7),
+                 "-L", "127.0.0.1", "-E", "127.0.0.1", "-p", str(self.port), "--min-port", str(first), "--max-port", str(first + slots - 1),
                  "-a", "-u", "u:p", "-r", "relay", "--no-tls", "--no-dtls", "--no-tcp", "--no-cli", "--allow-loopback-peers",
                  "--relay-threads", "1"]
         self.process = subprocess.Popen(words, stdout=subprocess.DEVNULL, stderr=subprocess.DEVNULL, cwd=folder)

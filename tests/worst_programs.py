@@ -23,6 +23,7 @@ BYTES = 512
 HEAD = ["ldxdw r2, [r1+24]", "ldxdw r3, [r1+32]"]
 UNKNOWN = ["ldxdw r{}, [r1+24]".format(register) for register in (4, 5, 6, 7, 8)]
 TAIL = ["mov r0, 0", "exit"]
+PRIMES = [number for number in range(2, 50) if all(number % factor for factor in range(2, number))]
 # a chain of jumps, at the target of each of which a state is kept
 LONG = 4_000
 
@@ -112,11 +113,10 @@ def wide_numbers(count):
 def products(registers, count):
     """Returns the lines of a program whose forks multiply intervals by other primes: none is known exactly, and none contains
     another."""
-    primes = [number for number in range(2, 50) if all(number % factor for factor in range(2, number))]
     lines = ["mov r0, 0", "ldxdw r9, [r1+24]", "ldxdw r8, [r1+16]", "and r8, 1", "add r8, 1", "mov r1, 0"]
     lines += [f"mov r{2 + number}, r8" for number in range(registers)]
     for number in range(count):
-        lines += [f"jset r9, {1 << number}, +1", f"mul r{2 + number % registers}, {primes[number]}"]
+        lines += [f"jset r9, {1 << number}, +1", f"mul r{2 + number % registers}, {PRIMES[number]}"]
     return lines + ["exit"]
 
 
@@ -142,10 +142,21 @@ def full_marks(count):
     return lines + [*chain(1, 9), "exit"]
 
 
+def shared_products(registers, count):
+    """Returns the lines of a program whose forks multiply one of two intervals by a prime. Each interval begins with 0; of two paths
+    neither has intervals that all contain the other's, and on all paths they leave out about as much together."""
+    lines = ["mov r0, 0", "ldxdw r9, [r1+24]", "ldxdw r8, [r1+16]", "and r8, 1", "mov r1, 0"]
+    lines += [f"mov r{2 + number}, r8" for number in range(registers)]
+    for number, prime in enumerate(PRIMES[:count]):
+        first, second = (2 + place % registers for place in (number, number + 1))
+        lines += [f"jset r9, {1 << number}, +2", f"mul r{first}, {prime}", "ja +1", f"mul r{second}, {prime}"]
+    return lines + ["exit"]
+
+
 def longest_programs():
     """Returns the texts of programs that are known to take longer than others, so that a server gives them up."""
     return {
-        "products of primes in two registers, 15 forks": products(2, 15),
+        "products that four registers share, 14 forks": shared_products(4, 14),
     }
 
 

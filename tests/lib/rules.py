@@ -260,7 +260,8 @@ class Rules:
             return ("c", client, message(m.kind | 0x110, m.transaction_id, given, key))
 
     def account(self, client, name):
-        """The user of a name, an index or the name itself, and the password; None where nobody has the name."""
+        """The user of a name, an index or the name itself, and the password; None where nobody has the name. A name that has expired
+        is refused for that."""
         for index, (user, password) in enumerate(self.users):
             if user.encode() == name:
                 return index, password.encode()
@@ -269,7 +270,7 @@ class Rules:
             return None
         held = self.of(client)
         if int(said[1]) <= self.now and (held is None or held.user != name):
-            return None
+            raise Refused(401, "expired")
         return name, password_of(self.secret, name)
 
     def check(self, client, m):

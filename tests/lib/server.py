@@ -76,6 +76,10 @@ def free_ports(count, address="127.0.0.1", among=(20_000, 32_000)):
             return first
 
 
+# how often a client sends a request that isn't answered, and after how many seconds
+TRIES, RETRANSMISSION = 5, 1
+
+
 class Server:
     """A running server."""
 
@@ -177,13 +181,26 @@ class Client:
     def receive(self):
         return self.socket.recv(65_535)
 
+    def response(self, request):
+        """Sends a request, again each second that brings nothing (RFC 8489, section 6.2.1), and returns what comes."""
+        for _ in range(TRIES):
+            self.send(request)
+            self.socket.settimeout(RETRANSMISSION)
+            try:
+                return self.receive()
+            except TimeoutError:
+                continue
+            finally:
+                self.socket.settimeout(5)
+        raise TimeoutError("no response")
+
     def ask(self, kind, given, key=None, peer=None):
         """Sends a request, with the address of a peer if there is one, and returns its response: of its transaction, and signed
         where it grants a signed one."""
         transaction_id = random.randbytes(12)
         peers = [] if peer is None else [(XOR_PEER_ADDRESS, address_value(peer, transaction_id))]
-        self.send(message(kind, transaction_id, peers + given, key))
-        answer = read(self.receive())
+        request = message(kind, transaction_id, peers + given, key)
+        answer = read(self.response(request))
         if answer is None or answer.transaction_id != transaction_id or answer.kind & 0x3EEF != kind:
             raise ValueError(f"{kind:#06x} is not answered")
         if key and answer.kind == kind | 0x100:

@@ -1,27 +1,64 @@
 -- Interface. What signatures have in common, by which many are ruled out at once.
-use Rattle.std.specs.Prelude.{ℕ, ◌/◌, ◌^◌, ◌==◌, ◌&&◌, ◌||◌, Bool, min, nat_lt, bit_and, bit_or}
+use Rattle.std.specs.Prelude.{ℕ, ◌/◌, ◌^◌, ◌&&◌, ◌||◌, Bool, min, nat_lt, nat_le, bit_and, bit_or}
+use Rattle.absstate.specs.declared.common_signature.CommonLinks.{CommonLinks}
+use Rattle.absstate.specs.declared.common_signature.CommonMargins.{CommonMargins}
 use Rattle.absstate.specs.declared.common_signature.CommonSignature.{CommonSignature}
+use Rattle.absstate.specs.declared.links.Links.{Links}
+use Rattle.absstate.specs.declared.margins.Margins.{Margins}
+use Rattle.absstate.specs.declared.signature.MarkBits.{MarkBits}
 use Rattle.absstate.specs.declared.signature.StateSignature.{StateSignature}
+use Rattle.absstate.specs.Signatures.{above_of, word_within, marks_within}
 
--- one bit of 128 for bounds, by their hash
-abbrev pub bounds_bit : ℕ → ℕ
-bounds_bit hash = 2 ^ (hash / 2 ^ 57)
+-- one bit of 128 for a hash
+abbrev pub hash_bit : ℕ → ℕ
+hash_bit hash = 2 ^ (hash / 2 ^ 57)
+
+abbrev pub is_among : ℕ → ℕ → Bool
+is_among hash bits = word_within (hash_bit hash) bits
+
+-- ---- what one has
+
+abbrev pub common_links_of : Links → CommonLinks
+common_links_of l = record { count = l.count; firsts = hash_bit l.firsts }
+
+abbrev pub common_margins_of : Margins → CommonMargins
+common_margins_of m = record { below = m.below; above = above_of m; total = m.total }
 
 abbrev pub common_of : StateSignature → CommonSignature
-common_of s = record { registers = s.registers; groups = s.groups; marks = s.marks; precisions = s.precisions; bounds = bounds_bit s.bounds }
+common_of s = record { registers = s.registers; groups = s.groups; marks = s.marks; margins = common_margins_of s.margins; bounds = hash_bit s.bounds; links = common_links_of s.links }
 
--- what some signatures and one more have in common: the bits that all of them have, and the least precision; the bits for bounds are
--- those of any of them
-abbrev pub common_with : CommonSignature → StateSignature → CommonSignature
-common_with c s = record {
-  registers = bit_and c.registers s.registers;
-  groups = bit_and c.groups s.groups;
-  marks = bit_and c.marks s.marks;
-  precisions = min c.precisions s.precisions;
-  bounds = bit_or c.bounds (bounds_bit s.bounds);
+-- ---- what two have in common: the bits that both have, and the least numbers; the bits for hashes are those of either
+
+abbrev pub common_marks : MarkBits → MarkBits → MarkBits
+common_marks m n = record { any = bit_and m.any n.any; two = bit_and m.two n.two }
+
+abbrev pub least_margins : CommonMargins → CommonMargins → CommonMargins
+least_margins m n = record { below = min m.below n.below; above = min m.above n.above; total = min m.total n.total }
+
+abbrev pub common_links : CommonLinks → CommonLinks → CommonLinks
+common_links l k = record { count = min l.count k.count; firsts = bit_or l.firsts k.firsts }
+
+abbrev pub in_common : CommonSignature → CommonSignature → CommonSignature
+in_common c d = record {
+  registers = bit_and c.registers d.registers;
+  groups = bit_and c.groups d.groups;
+  marks = common_marks c.marks d.marks;
+  margins = least_margins c.margins d.margins;
+  bounds = bit_or c.bounds d.bounds;
+  links = common_links c.links d.links;
 }
 
--- another signature that one of them may lie within
+abbrev pub common_with : CommonSignature → StateSignature → CommonSignature
+common_with c s = in_common c (common_of s)
+
+-- ---- another one that one of them may lie within
+
+abbrev pub admits_margins : CommonMargins → Margins → Bool
+admits_margins m n = nat_le m.below n.below && nat_le m.above (above_of n)
+
+abbrev pub admits_links : CommonLinks → Links → Bool
+admits_links l k = nat_lt l.count k.count || is_among k.firsts l.firsts
+
 abbrev pub admits : CommonSignature → StateSignature → Bool
-admits c t = (bit_and c.registers t.registers == c.registers) && ((bit_and c.groups t.groups == c.groups) && ((bit_and c.marks t.marks == c.marks)
-    && (nat_lt c.precisions t.precisions || (bit_and (bounds_bit t.bounds) c.bounds == bounds_bit t.bounds))))
+admits c t = word_within c.registers t.registers && (word_within c.groups t.groups && (admits_margins c.margins t.margins
+    && ((nat_lt c.margins.total t.margins.total || is_among t.bounds c.bounds) && (marks_within c.marks t.marks && admits_links c.links t.links))))

@@ -1,7 +1,7 @@
 -- Interface. Signatures of states, by which most states that a state doesn't cover are ruled out.
-use Rattle.std.specs.Prelude.{ℕ, suc, ◌+◌, ◌-◌, ◌*◌, ◌/◌, ◌%◌, ◌^◌, ◌==◌, nat_lt, ◌&&◌, ◌||◌, Bool, ℤ, pos, int_le, List, [], ◌∷◌, take, drop, bit_and, bit_or, if◌then◌else◌, zero, Option, None, Some, position, slice_index_or}
+use Rattle.std.specs.Prelude.{ℕ, suc, ◌+◌, ◌-◌, ◌*◌, ◌/◌, ◌%◌, ◌^◌, ◌==◌, nat_lt, nat_le, ◌&&◌, ◌||◌, Bool, ℤ, pos, int_le, List, [], ◌∷◌, take, drop, bit_and, bit_or, if◌then◌else◌, zero, Option, None, Some, position, slice_index_or}
 use Rattle.std.specs.Int.{w32, w64, rotate_left, cast_unsigned}
-use Rattle.interval.specs.Domains.{Operations, span}
+use Rattle.interval.specs.Domains.{Operations}
 use Rattle.interval.specs.declared.domain.Bounds.{Bounds}
 use Rattle.absstate.specs.AbstractStates.{proved_from}
 use Rattle.absstate.specs.MarkWords.{words_of}
@@ -11,6 +11,8 @@ use Rattle.absstate.specs.declared.abstract_state.AbsState.{AbsState}
 use Rattle.absstate.specs.declared.abstract_state.TheConstants.{REGISTERS, VALUES}
 use Rattle.absstate.specs.Covers.{have_one_anchor}
 use Rattle.absstate.specs.declared.links.Links.{Links}
+use Rattle.absstate.specs.declared.margins.Margins.{Margins}
+use Rattle.absstate.specs.declared.signature.MarkBits.{MarkBits}
 use Rattle.absstate.specs.declared.signature.StateSignature.{StateSignature}
 
 -- one bit of 64, by a hash of an index, a kind and a number
@@ -40,27 +42,36 @@ abbrev pub value_bits : {D : Type 0} → Operations D → ℕ → ℤ → List (
 value_bits ops index proved [] = 0
 value_bits ops index proved (v ∷ values) = bit_or (value_bit ops index proved v) (value_bits ops (suc index) proved values)
 
+-- bits for the marks of one more word: where one is, and where two or more are
+abbrev pub marked_with : ℕ → MarkBits → MarkBits
+marked_with word bits = record { any = bit_or word bits.any; two = bit_or (bit_and word bits.any) bits.two }
+
 -- the bits of words of marks, of which each is rotated by 9 bits more than the one before it
-abbrev pub mark_bits : ℕ → List ℕ → ℕ
-mark_bits index [] = 0
-mark_bits index (word ∷ words) = bit_or (rotate_left w64 word (9 * index)) (mark_bits (suc index) words)
+abbrev pub mark_bits : ℕ → List ℕ → MarkBits
+mark_bits index [] = record { any = 0; two = 0 }
+mark_bits index (word ∷ words) = marked_with (rotate_left w64 word (9 * index)) (mark_bits (suc index) words)
 
--- how precisely a value is known: not at all, to a span of fewer and fewer words, or exactly
-abbrev pub precision : {D : Type 0} → Operations D → AbstractValue D → ℕ
-precision ops Nothing = 0
-precision ops (Scalar x) = 2 ^ 64 - span (ops.bounds x)
-precision ops Ctx = 2 ^ 64
-precision ops (Stack k) = 2 ^ 64
-precision ops (Data anchor k) = 2 ^ 64
-precision ops End = 2 ^ 64
+-- how many words a value leaves out below it, and in all: none where nothing is known of it, all on both sides where it is known and
+-- no number
+abbrev pub value_margins : {D : Type 0} → Operations D → AbstractValue D → Margins
+value_margins ops Nothing = record { below = 0; total = 0 }
+value_margins ops (Scalar x) = record { below = (ops.bounds x).lo; total = (ops.bounds x).lo + (2 ^ 64 - 1 - (ops.bounds x).hi) }
+value_margins ops Ctx = record { below = 2 ^ 64; total = 2 * 2 ^ 64 }
+value_margins ops (Stack k) = record { below = 2 ^ 64; total = 2 * 2 ^ 64 }
+value_margins ops (Data anchor k) = record { below = 2 ^ 64; total = 2 * 2 ^ 64 }
+value_margins ops End = record { below = 2 ^ 64; total = 2 * 2 ^ 64 }
 
-abbrev pub precisions : {D : Type 0} → Operations D → List (AbstractValue D) → ℕ
-precisions ops [] = 0
-precisions ops (v ∷ values) = precision ops v + precisions ops values
+abbrev pub added_margins : Margins → Margins → Margins
+added_margins m n = record { below = m.below + n.below; total = m.total + n.total }
 
--- both bounds of a number, hashed; words have no wider span
+-- and values, together
+abbrev pub margins_of : {D : Type 0} → Operations D → List (AbstractValue D) → Margins
+margins_of ops [] = record { below = 0; total = 0 }
+margins_of ops (v ∷ values) = added_margins (value_margins ops v) (margins_of ops values)
+
+-- what a number leaves out on either side, hashed
 abbrev pub hashed_bounds : Bounds → ℕ
-hashed_bounds b = if nat_lt (span b) (2 ^ 64) then (b.lo + b.hi * 13787848793156543929 % 2 ^ 64) % 2 ^ 64 else 0
+hashed_bounds b = (b.lo + (2 ^ 64 - 1 - b.hi) * 13787848793156543929 % 2 ^ 64) % 2 ^ 64
 
 abbrev pub bounds_hash : {D : Type 0} → Operations D → AbstractValue D → ℕ
 bounds_hash ops Nothing = 0
@@ -108,15 +119,28 @@ state_signature ops a = record {
   registers = value_bits ops 0 a.proved (take REGISTERS a.registers);
   groups = value_bits ops REGISTERS a.proved (drop REGISTERS a.registers);
   marks = mark_bits 0 (words_of a.marks.cells);
+  margins = margins_of ops a.registers;
   bounds = bounds_hashes ops a.registers;
-  precisions = precisions ops a.registers;
   links = state_links a.registers;
 }
 
--- all bits of words are bits of other ones
-abbrev pub bits_within : StateSignature → StateSignature → Bool
-bits_within s t = (bit_and s.registers t.registers == s.registers) && ((bit_and s.groups t.groups == s.groups) && (bit_and s.marks t.marks == s.marks))
+-- all bits of a word are bits of another one
+abbrev pub word_within : ℕ → ℕ → Bool
+word_within w v = bit_and w v == w
 
--- all bits of a signature are bits of another one, of a state that is known more precisely or whose numbers have the same bounds, and that has more links or the same
+abbrev pub marks_within : MarkBits → MarkBits → Bool
+marks_within m n = word_within m.any n.any && word_within m.two n.two
+
+-- how many words are left out above
+abbrev pub above_of : Margins → ℕ
+above_of m = m.total - m.below
+
+-- as many words or more are left out by others, on either side
+abbrev pub margins_within : Margins → Margins → Bool
+margins_within m n = nat_le m.below n.below && nat_le (above_of m) (above_of n)
+
+-- All bits of a signature are bits of another one, of a state whose values leave out as many words or more and whose numbers have the
+-- same bounds where it is as many, and that has more links or the same.
 abbrev pub lies_within : StateSignature → StateSignature → Bool
-lies_within s t = bits_within s t && ((nat_lt s.precisions t.precisions || (s.bounds == t.bounds)) && lie_within s.links t.links)
+lies_within s t = word_within s.registers t.registers && (word_within s.groups t.groups && (margins_within s.margins t.margins
+    && (((s.bounds == t.bounds) || nat_lt s.margins.total t.margins.total) && (marks_within s.marks t.marks && lie_within s.links t.links))))

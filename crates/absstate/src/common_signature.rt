@@ -1,32 +1,124 @@
 //! What signatures have in common, by which many are ruled out at once.
 
 ghost use Rattle.std.specs.Prelude.{◌≡◌};
-ghost use Rattle.absstate.specs.CommonSignatures.{bounds_bit};
+ghost use Rattle.absstate.specs.CommonSignatures.{hash_bit, is_among};
 
-use crate::signature::StateSignature;
+use crate::links::Links;
+use crate::margins::Margins;
+use crate::signature::{MarkBits, StateSignature};
 
-/// What some signatures have in common: the bits that each of them has, the least of their precisions, and a bit for the bounds
-/// of each, by their hash.
+/// What some links have in common: the least count, and a bit for the first places of each, by their hash.
+#[derive(Clone, Copy, Debug, PartialEq, Eq)]
+pub(crate) struct CommonLinks {
+    count: u64,
+    firsts: u128,
+}
+
+/// What the margins of some states have in common: the least number on each side, and of all.
+#[derive(Clone, Copy, Debug, PartialEq, Eq)]
+pub(crate) struct CommonMargins {
+    below: u128,
+    above: u128,
+    total: u128,
+}
+
+/// What some signatures have in common: the bits that each of them has, the least of their margins, a bit for the bounds of each,
+/// by their hash, and what their links have.
 /// See docs/DESIGN.md, "What distinguishes a kept state".
 #[derive(Clone, Copy, Debug, PartialEq, Eq)]
 pub struct CommonSignature {
     registers: u64,
     groups: u64,
-    marks: u64,
-    precisions: u128,
+    marks: MarkBits,
+    margins: CommonMargins,
     bounds: u128,
+    links: CommonLinks,
 }
 
-/// Returns one bit of 128 for bounds, by their hash.
-fn bounds_bit(hash: u64) -> u128
-    ensures { result ≡ bounds_bit hash }
+/// Returns one bit of 128 for a hash.
+fn hash_bit(hash: u64) -> u128
+    ensures { result ≡ hash_bit hash }
 {
     1 << (hash >> 57)
 }
 
+/// Returns whether the bit of a hash is among bits.
+fn is_among(hash: u64, bits: u128) -> bool
+    ensures { result ≡ is_among hash bits }
+{
+    let bit = hash_bit(hash);
+    bit & bits == bit
+}
+
+impl CommonMargins {
+    ghost use Rattle.std.specs.Prelude.{◌≡◌};
+    ghost use Rattle.absstate.specs.CommonSignatures.{common_margins_of, least_margins, admits_margins};
+
+    /// Returns what the margins of one state have.
+    fn of(margins: Margins) -> CommonMargins
+        ensures { result ≡ common_margins_of margins }
+    {
+        CommonMargins {
+            below: margins.below,
+            above: margins.above(),
+            total: margins.total,
+        }
+    }
+
+    /// Returns what these and other ones have in common.
+    fn least(self, other: CommonMargins) -> CommonMargins
+        ensures { result ≡ least_margins self other }
+    {
+        CommonMargins {
+            below: self.below.min(other.below),
+            above: self.above.min(other.above),
+            total: self.total.min(other.total),
+        }
+    }
+
+    /// Returns whether some of the margins may lie within other ones.
+    fn admit(self, other: Margins) -> bool
+        ensures { result ≡ admits_margins self other }
+    {
+        self.below <= other.below && self.above <= other.above()
+    }
+}
+
+impl CommonLinks {
+    ghost use Rattle.std.specs.Prelude.{◌≡◌};
+    ghost use Rattle.absstate.specs.CommonSignatures.{common_links_of, common_links, admits_links};
+
+    /// Returns what the links of one state have.
+    fn of(links: Links) -> CommonLinks
+        ensures { result ≡ common_links_of links }
+    {
+        CommonLinks {
+            count: links.count,
+            firsts: hash_bit(links.firsts),
+        }
+    }
+
+    /// Returns what these and other ones have in common.
+    fn in_common(self, other: CommonLinks) -> CommonLinks
+        ensures { result ≡ common_links self other }
+    {
+        CommonLinks {
+            count: self.count.min(other.count),
+            firsts: self.firsts | other.firsts,
+        }
+    }
+
+    /// Returns whether some of the links may lie within other ones.
+    fn admit(self, other: Links) -> bool
+        ensures { result ≡ admits_links self other }
+    {
+        self.count < other.count || is_among(other.firsts, self.firsts)
+    }
+}
+
 impl CommonSignature {
     ghost use Rattle.std.specs.Prelude.{◌≡◌};
-    ghost use Rattle.absstate.specs.CommonSignatures.{common_of, common_with, admits};
+    ghost use Rattle.absstate.specs.CommonSignatures.{common_of, in_common, common_with, admits};
 
     /// Returns what one signature has.
     pub fn of(signature: StateSignature) -> CommonSignature
@@ -36,8 +128,9 @@ impl CommonSignature {
             registers: signature.registers,
             groups: signature.groups,
             marks: signature.marks,
-            precisions: signature.precisions,
-            bounds: bounds_bit(signature.bounds),
+            margins: CommonMargins::of(signature.margins),
+            bounds: hash_bit(signature.bounds),
+            links: CommonLinks::of(signature.links),
         }
     }
 
@@ -45,12 +138,20 @@ impl CommonSignature {
     pub fn with(self, signature: StateSignature) -> CommonSignature
         ensures { result ≡ common_with self signature }
     {
+        self.in_common(CommonSignature::of(signature))
+    }
+
+    /// Returns what these signatures and other ones have in common.
+    fn in_common(self, other: CommonSignature) -> CommonSignature
+        ensures { result ≡ in_common self other }
+    {
         CommonSignature {
-            registers: self.registers & signature.registers,
-            groups: self.groups & signature.groups,
-            marks: self.marks & signature.marks,
-            precisions: self.precisions.min(signature.precisions),
-            bounds: self.bounds | bounds_bit(signature.bounds),
+            registers: self.registers & other.registers,
+            groups: self.groups & other.groups,
+            marks: self.marks.in_common(other.marks),
+            margins: self.margins.least(other.margins),
+            bounds: self.bounds | other.bounds,
+            links: self.links.in_common(other.links),
         }
     }
 
@@ -58,10 +159,11 @@ impl CommonSignature {
     pub fn admits(self, other: StateSignature) -> bool
         ensures { result ≡ admits self other }
     {
-        let bounds = bounds_bit(other.bounds);
         self.registers & other.registers == self.registers
             && self.groups & other.groups == self.groups
-            && self.marks & other.marks == self.marks
-            && (self.precisions < other.precisions || bounds & self.bounds == bounds)
+            && self.margins.admit(other.margins)
+            && (self.margins.total < other.margins.total || is_among(other.bounds, self.bounds))
+            && self.marks.lie_within(other.marks)
+            && self.links.admit(other.links)
     }
 }

@@ -11,6 +11,7 @@ mod common_signature;
 mod covering;
 mod links;
 mod loading;
+mod margins;
 mod mark_words;
 mod memory;
 mod packed;

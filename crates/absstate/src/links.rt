@@ -11,8 +11,8 @@ use crate::covering::{is_place, shared};
 /// How many places of a state are at the anchor of an earlier one, and which is the first there of each, hashed.
 #[derive(Clone, Copy, Debug, PartialEq, Eq)]
 pub(crate) struct Links {
-    count: u64,
-    firsts: u64,
+    pub(crate) count: u64,
+    pub(crate) firsts: u64,
 }
 
 /// Returns the index of the first of some values that is at the anchor of a value, if there is one.

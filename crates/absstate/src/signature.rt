@@ -1,33 +1,37 @@
 //! Signatures of states. A state covers only states whose signatures its own lies within, which a few words decide.
 
-ghost use Rattle.std.specs.Prelude.{◌≡◌, ◌≤◌, ◌+◌, ◌*◌, ◌^◌, length};
+ghost use Rattle.std.specs.Prelude.{◌≡◌, ◌≤◌, ◌+◌, length};
 ghost use Rattle.absstate.specs.AbstractStates.{proved_of};
 ghost use Rattle.absstate.specs.MarkWords.{words_of};
-ghost use Rattle.absstate.specs.Signatures.{hashed_bit, number_bit, proved_bit, value_bit, value_bits, mark_bits, precision, precisions, hashed_bounds, bounds_hash, bounds_hashes, state_signature, lies_within};
+ghost use Rattle.absstate.specs.Signatures.{hashed_bit, number_bit, proved_bit, value_bit, value_bits, mark_bits, hashed_bounds, bounds_hash, bounds_hashes};
 
 use crate::abstract_state::{AbsState, AbstractValue, Anchor, REGISTERS};
 use crate::covering::registers_of;
 use crate::links::{Links, links_of};
+use crate::margins::{Margins, margins_of};
 use crate::mark_words::MarkWords;
 use interval::{Bounds, Domain};
 
-/// What is compared of states first: words that have a bit for each register that is known exactly,
-/// for each such group, and for each mark, and one for each place past whose anchor something is
-/// proved; how precisely all values are known together; the bounds of all numbers, hashed; and
-/// which places are at the anchor of an earlier one.
+/// Bits for marks, by their places: where a mark is, and where two or more are.
+#[derive(Clone, Copy, Debug, PartialEq, Eq)]
+pub(crate) struct MarkBits {
+    pub(crate) any: u64,
+    pub(crate) two: u64,
+}
+
+/// What is compared of states first: words that have a bit for each register that is known exactly, for each such group, and for
+/// marks, and one for each place past whose anchor something is proved; how many words all values leave out; the bounds of all
+/// numbers, hashed; and which places are at the anchor of an earlier one.
 /// See docs/DESIGN.md, "What distinguishes a kept state".
 #[derive(Clone, Copy, Debug, PartialEq, Eq)]
 pub struct StateSignature {
     pub(crate) registers: u64,
     pub(crate) groups: u64,
-    pub(crate) marks: u64,
+    pub(crate) marks: MarkBits,
+    pub(crate) margins: Margins,
     pub(crate) bounds: u64,
-    pub(crate) precisions: u128,
-    links: Links,
+    pub(crate) links: Links,
 }
-
-/// The precision of a value that is known exactly: as many words as there are.
-const EXACT: u128 = 1 << 64;
 
 /// Returns one bit of 64, by a hash of an index, a kind and a number.
 fn hashed_bit(index: usize, kind: u64, number: u64) -> u64
@@ -99,40 +103,20 @@ fn value_bits<D: Domain>(index: usize, state: &AbsState<D>, values: &[AbstractVa
 }
 
 /// Returns the bits of words of marks, of which each is rotated by 9 bits more than the one before it.
-fn mark_bits(index: usize, words: &[u64]) -> u64
+fn mark_bits(index: usize, words: &[u64]) -> MarkBits
     requires { index + length words.now ≤ 8 }
     ensures { result ≡ mark_bits index words.now }
 {
     match words {
-        [] => 0,
-        [first, words @ ..] => first.rotate_left(9 * index as u32) | mark_bits(index + 1, words),
-    }
-}
-
-/// Returns how precisely a value is known.
-fn precision<D: Domain>(value: AbstractValue<D>) -> u128
-    ensures value { result ≡ precision D.ops value }
-    ensures small { result ≤ 2 ^ 64 }
-{
-    match value {
-        AbstractValue::Nothing => 0,
-        AbstractValue::Scalar(number) => {
-            let Bounds { lo, hi } = number.bounds();
-            EXACT - u128::from(hi.saturating_sub(lo))
+        [] => MarkBits { any: 0, two: 0 },
+        [first, words @ ..] => {
+            let word = first.rotate_left(9 * index as u32);
+            let rest = mark_bits(index + 1, words);
+            MarkBits {
+                any: word | rest.any,
+                two: (word & rest.any) | rest.two,
+            }
         }
-        _ => EXACT,
-    }
-}
-
-/// Returns how precisely values are known, as the sum.
-fn precisions<D: Domain>(values: &[AbstractValue<D>]) -> u128
-    requires { length values.now ≤ 75 }
-    ensures value { result ≡ precisions D.ops values.now }
-    ensures small { result ≤ length values.now * 2 ^ 64 }
-{
-    match values {
-        [] => 0,
-        [first, values @ ..] => precision(*first) + precisions(values),
     }
 }
 
@@ -140,8 +124,10 @@ fn precisions<D: Domain>(values: &[AbstractValue<D>]) -> u128
 fn hashed_bounds(bounds: Bounds) -> u64
     ensures { result ≡ hashed_bounds bounds }
 {
-    let Bounds { lo, hi } = bounds;
-    lo.wrapping_add(hi.wrapping_mul(13_787_848_793_156_543_929))
+    let above = u64::MAX - bounds.hi;
+    bounds
+        .lo
+        .wrapping_add(above.wrapping_mul(13_787_848_793_156_543_929))
 }
 
 /// Returns the bounds of a number among values, hashed; 0 for any other value.
@@ -167,19 +153,43 @@ fn bounds_hashes<D: Domain>(values: &[AbstractValue<D>]) -> u64
     }
 }
 
+impl MarkBits {
+    ghost use Rattle.std.specs.Prelude.{◌≡◌};
+    ghost use Rattle.absstate.specs.Signatures.{marks_within};
+    ghost use Rattle.absstate.specs.CommonSignatures.{common_marks};
+
+    /// Returns whether all of these bits are bits of other ones.
+    pub(crate) fn lie_within(self, other: MarkBits) -> bool
+        ensures { result ≡ marks_within self other }
+    {
+        self.any & other.any == self.any && self.two & other.two == self.two
+    }
+
+    /// Returns the bits that other ones have, too.
+    pub(crate) fn in_common(self, other: MarkBits) -> MarkBits
+        ensures { result ≡ common_marks self other }
+    {
+        MarkBits {
+            any: self.any & other.any,
+            two: self.two & other.two,
+        }
+    }
+}
+
 impl StateSignature {
     ghost use Rattle.std.specs.Prelude.{◌≡◌};
     ghost use Rattle.absstate.specs.Signatures.{lies_within};
 
-    /// Returns whether all bits of this signature are bits of another one, of a state that is known more precisely or whose
-    /// numbers have the same bounds, and that has more links or the same.
+    /// Returns whether all bits of this signature are bits of another one, of a state whose values leave out as many words or
+    /// more and whose numbers have the same bounds where it is as many, and that has more links or the same.
     pub fn lies_within(self, other: StateSignature) -> bool
         ensures { result ≡ lies_within self other }
     {
         self.registers & other.registers == self.registers
             && self.groups & other.groups == self.groups
-            && self.marks & other.marks == self.marks
-            && (self.precisions < other.precisions || self.bounds == other.bounds)
+            && self.margins.lie_within(other.margins)
+            && (self.bounds == other.bounds || self.margins.total < other.margins.total)
+            && self.marks.lie_within(other.marks)
             && self.links.lie_within(other.links)
     }
 }
@@ -200,8 +210,8 @@ impl<D: Domain> AbsState<D> {
             registers: value_bits(0, self, registers),
             groups: value_bits(REGISTERS, self, groups),
             marks: mark_bits(0, words),
+            margins: margins_of(values),
             bounds: bounds_hashes(values),
-            precisions: precisions(values),
             links: links_of(values),
         }
     }

@@ -1,7 +1,29 @@
-//! A ghost counter: contracts see it, and it has no bytes at run time.
+//! Ghost counters: contracts see them, and they have no bytes at run time.
+
+ghost use Rattle.std.specs.Prelude.{ℕ, ◌≤◌, ◌+◌};
 
 use std::marker::Model;
 use std::sync::ledger::{Blank, Book, Ledger, Share};
+
+/// What counts. A function that is generic over it has one body, which its contract bounds by the count, and is called without a
+/// count by [`Uncounted`].
+pub trait Count {
+    ghost count: { Self → ℕ };
+
+    /// Counts one step more.
+    fn tick(&mut self)
+        ensures { count self.new ≤ count self.old + 1 };
+}
+
+/// Counts nothing.
+#[derive(Clone, Copy, Debug)]
+pub struct Uncounted;
+
+impl Count for Uncounted {
+    ghost count = { λ _. 0 };
+
+    fn tick(&mut self) {}
+}
 
 /// How many steps were made: abstract steps of the verifier, and keys that look-ups of the tables compare. It has no bytes
 /// at run time, and only `tick` changes it.
@@ -41,5 +63,13 @@ impl<L: Ledger> Steps<L> {
         ensures { self.new ≡ self.old + 1 }
     {
         self.book.add(&mut self.share, 1);
+    }
+}
+
+impl<L: Ledger> Count for Steps<L> {
+    ghost count = { λ s. s };
+
+    fn tick(&mut self) {
+        Steps::tick(self);
     }
 }

@@ -1,7 +1,9 @@
 //! Parses the command line of relayd.
 #![tactic(auto)]
 
+mod arguments;
 pub mod defaults;
+mod lines;
 mod matches;
 mod relayed;
 mod values;
@@ -10,7 +12,9 @@ ghost use Rattle.std.specs.Prelude.{◌≡◌, true, false, IfOk};
 ghost use Rattle.clap.specs.Words.{has_subcommand};
 ghost use Rattle.command_line.specs.Commands.{IsLocal, RequiresSubcommand};
 
+use crate::arguments::{Argument, SUBCOMMANDS, SubcommandWords, Takes};
 use clap::{Arg, ArgAction, ArgMatches, Command, Error};
+pub use lines::{OptionFault, OptionWords, option_of_line};
 pub use matches::subcommand_of;
 pub use relayed::{RelayedError, relayed_ip, relayed_ip6};
 use std::alloc::{AllocError, Global};
@@ -75,6 +79,8 @@ pub struct ServerOptions<'a> {
     pub deny: Option<&'a [&'a str]>,
     /// The networks that are sent to, in the order in which they are given.
     pub allow: Option<&'a [&'a str]>,
+    /// The ports at which the server's own addresses are peers, as `49152-53247`; those of its slots by default.
+    pub relayed_ports: Option<&'a str>,
     /// The seconds after which a new nonce is drawn, at least 1; 3600 by default.
     pub nonce_lifetime: u64,
     /// The seconds between two lines of counters, at least 1; `None` is to print none.
@@ -140,431 +146,61 @@ pub enum Subcommand<'a> {
         server: ServerOptions<'a>,
         options: Options<'a>,
     },
+    /// Check a server, an address or a name with a port, as a client does. `user` is a name and a password with a colon between
+    /// them, and `None` is to make no allocation.
+    Check {
+        server: &'a str,
+        user: Option<&'a str>,
+    },
 }
 
-/// Returns an option with one value.
-fn option<'a>(alloc: Global, name: &'a str, value: &'a str, help: &'a str) -> Arg<'a>
+/// Returns an argument.
+fn arg<'a>(alloc: Global, argument: &Argument) -> Arg<'a>
     ensures { result.global ≡ false }
 {
-    Arg::new(alloc, name)
-        .long(name)
-        .value_name(value)
-        .help(help)
-        .action(ArgAction::Set)
+    let arg = Arg::new(alloc, argument.name).help(argument.help);
+    match argument.takes {
+        Takes::Word(value) => arg.value_name(value).required(true).action(ArgAction::Set),
+        Takes::NeededValue(value) => arg
+            .long(argument.name)
+            .value_name(value)
+            .required(true)
+            .action(ArgAction::Set),
+        Takes::Value(value) => arg
+            .long(argument.name)
+            .value_name(value)
+            .action(ArgAction::Set),
+        Takes::Values(value) => arg
+            .long(argument.name)
+            .value_name(value)
+            .action(ArgAction::Append),
+        Takes::Nothing => arg.long(argument.name).action(ArgAction::SetTrue),
+    }
 }
 
-/// Returns an option with one value, which may be repeated.
-fn repeated_option<'a>(alloc: Global, name: &'a str, value: &'a str, help: &'a str) -> Arg<'a>
-    ensures { result.global ≡ false }
-{
-    Arg::new(alloc, name)
-        .long(name)
-        .value_name(value)
-        .help(help)
-        .action(ArgAction::Append)
-}
-
-/// Returns a flag.
-fn flag<'a>(alloc: Global, name: &'a str, help: &'a str) -> Arg<'a>
-    ensures { result.global ≡ false }
-{
-    Arg::new(alloc, name)
-        .long(name)
-        .help(help)
-        .action(ArgAction::SetTrue)
-}
-
-/// Returns the argument `FILE`.
-fn file<'a>(alloc: Global) -> Arg<'a>
-    ensures { result.global ≡ false }
-{
-    Arg::new(alloc, "file")
-        .value_name("FILE")
-        .help("The program: its encoded instructions (RFC 9669), 1 to 4,096 slots of 8 bytes")
-        .required(true)
-        .action(ArgAction::Set)
-}
-
-/// Returns the argument `IN`.
-fn input<'a>(alloc: Global, help: &'a str) -> Arg<'a>
-    ensures { result.global ≡ false }
-{
-    Arg::new(alloc, "in")
-        .value_name("IN")
-        .help(help)
-        .required(true)
-        .action(ArgAction::Set)
-}
-
-/// Returns the argument `OUT`.
-fn output<'a>(alloc: Global) -> Arg<'a>
-    ensures { result.global ≡ false }
-{
-    Arg::new(alloc, "out")
-        .value_name("OUT")
-        .help("The file to write: the program's encoded instructions")
-        .required(true)
-        .action(ArgAction::Set)
-}
-
-/// Returns the subcommand `verify`.
-fn verify<'a>(alloc: Global) -> Result<Command<'a>, AllocError>
-    ensures { IfOk result IsLocal }
-{
-    Command::new(alloc, "verify")
-        .about("Verify a program, and print which instruction is refused and why")
-        .arg(file(alloc))
-}
-
-/// Returns the subcommand `explain`.
-fn explain<'a>(alloc: Global) -> Result<Command<'a>, AllocError>
-    ensures { IfOk result IsLocal }
-{
-    Command::new(alloc, "explain")
-        .about(
-            "Print what the verifier knows at each instruction, or the path to the one that it refuses, and why",
-        )
-        .arg(file(alloc))?
-        .arg(option(
-            alloc,
-            "slot",
-            "N",
-            "Print each state from which the verifier made a step at this slot",
-        ))
-}
-
-/// Returns the subcommand `trace`.
-fn trace<'a>(alloc: Global) -> Result<Command<'a>, AllocError>
-    ensures { IfOk result IsLocal }
-{
-    Command::new(alloc, "trace")
-        .about("Run a program over one datagram, and print each instruction as it is reached")
-        .arg(file(alloc))?
-        .arg(option(
-            alloc,
-            "data",
-            "HEX",
-            "The datagram in hexadecimal digits, at most 65,507 bytes; empty by default",
-        ))
-}
-
-/// Returns the subcommand `assemble`.
-fn assemble<'a>(alloc: Global) -> Result<Command<'a>, AllocError>
-    ensures { IfOk result IsLocal }
-{
-    Command::new(alloc, "assemble")
-        .about("Assemble the text of a program, or print which line is wrong")
-        .arg(input(
-            alloc,
-            "The text of a program: one instruction or label a line",
-        ))?
-        .arg(output(alloc))
-}
-
-/// Returns the subcommand `order`.
-fn order<'a>(alloc: Global) -> Result<Command<'a>, AllocError>
-    ensures { IfOk result IsLocal }
-{
-    Command::new(alloc, "order")
-        .about(
-            "Put a program in an order in which every jump leads forward, or print where it has a loop",
-        )
-        .arg(input(
-            alloc,
-            "The program: its encoded instructions (RFC 9669), 1 to 4,096 slots of 8 bytes",
-        ))?
-        .arg(output(alloc))
-}
-
-/// Returns the subcommand `disassemble`.
-fn disassemble<'a>(alloc: Global) -> Result<Command<'a>, AllocError>
-    ensures { IfOk result IsLocal }
-{
-    Command::new(alloc, "disassemble")
-        .about("Print a program as text, which assembles to the same program")
-        .arg(file(alloc))?
-        .arg(flag(
-            alloc,
-            "slots",
-            "Write the slot of each instruction after it, as a comment",
-        ))
-}
-
-/// Returns the argument `EVENTS`.
-fn events<'a>(alloc: Global) -> Arg<'a>
-    ensures { result.global ≡ false }
-{
-    Arg::new(alloc, "events")
-        .value_name("EVENTS")
-        .help("The events, one a line, as docs/EVENTS.md says; - reads standard input")
-        .required(true)
-        .action(ArgAction::Set)
-}
-
-/// Adds the options of the users.
-fn with_users<'a>(alloc: Global, command: Command<'a>) -> Result<Command<'a>, AllocError>
+/// Adds arguments to a subcommand.
+fn with_arguments<'a>(
+    alloc: Global,
+    command: Command<'a>,
+    arguments: &[Argument],
+) -> Result<Command<'a>, AllocError>
     requires { IsLocal command }
     ensures { IfOk result IsLocal }
 {
-    command
-        .arg(option(alloc, "realm", "R", "The realm; relay by default"))?
-        .arg(repeated_option(
-            alloc,
-            "user",
-            "NAME:PASSWORD",
-            "A user, whose name ends at the first colon; may be repeated. Other users of the machine can see it: see --users",
-        ))?
-        .arg(option(
-            alloc,
-            "users",
-            "FILE",
-            "A file of users: NAME:PASSWORD a line",
-        ))?
-        .arg(option(
-            alloc,
-            "secret",
-            "FILE",
-            "A file with the secret of time-limited credentials, a line of 16 to 128 bytes; none by default",
-        ))
+    let mut command = command;
+    for argument in arguments {
+        command = command.arg(arg(alloc, argument))?;
+    }
+    Ok(command)
 }
 
-/// Adds the options of the relayed addresses.
-fn with_addresses<'a>(alloc: Global, command: Command<'a>) -> Result<Command<'a>, AllocError>
-    requires { IsLocal command }
+/// Returns a subcommand.
+fn command_of<'a>(alloc: Global, words: &SubcommandWords) -> Result<Command<'a>, AllocError>
     ensures { IfOk result IsLocal }
 {
-    command
-        .arg(option(
-            alloc,
-            "slots",
-            "N",
-            "How many allocations there may be at once; 16 by default",
-        ))?
-        .arg(option(
-            alloc,
-            "relay-ip",
-            "A",
-            "The relayed IPv4 address; 127.0.0.1 by default, and of a server that of --listen",
-        ))?
-        .arg(option(
-            alloc,
-            "relay-ip6",
-            "HEX",
-            "The relayed IPv6 address, in 32 hexadecimal digits; none by default",
-        ))?
-        .arg(option(
-            alloc,
-            "first-port",
-            "P",
-            "The relayed port of slot 0; 49152 by default",
-        ))
-}
-
-/// Adds the options of the programs.
-fn with_programs<'a>(alloc: Global, command: Command<'a>) -> Result<Command<'a>, AllocError>
-    requires { IsLocal command }
-    ensures { IfOk result IsLocal }
-{
-    command
-        .arg(option(
-            alloc,
-            "client",
-            "FILE",
-            "The program for clients' datagrams; CLIENT by default",
-        ))?
-        .arg(option(
-            alloc,
-            "peer",
-            "FILE",
-            "The program for peers' datagrams; PEER by default",
-        ))?
-        .arg(repeated_option(
-            alloc,
-            "same-as",
-            "A=B",
-            "An address that a program may send to where the client has permitted B in its place; may be repeated",
-        ))
-}
-
-/// Adds the options that set up a relay.
-fn with_options<'a>(alloc: Global, command: Command<'a>) -> Result<Command<'a>, AllocError>
-    requires { IsLocal command }
-    ensures { IfOk result IsLocal }
-{
-    let command = with_users(alloc, command)?;
-    let command = with_addresses(alloc, command)?;
-    with_programs(alloc, command)
-}
-
-/// Adds the options of a replay alone.
-fn with_replay<'a>(alloc: Global, command: Command<'a>) -> Result<Command<'a>, AllocError>
-    requires { IsLocal command }
-    ensures { IfOk result IsLocal }
-{
-    command
-        .arg(option(alloc, "nonce", "TEXT", "The nonce; n1 by default"))?
-        .arg(flag(
-            alloc,
-            "why",
-            "Print after each answer what was granted, or which test failed",
-        ))?
-        .arg(flag(
-            alloc,
-            "confine",
-            "Confine the programs to the peers that clients have permitted, as serve does",
-        ))
-}
-
-/// Returns the subcommand `replay`.
-fn replay<'a>(alloc: Global) -> Result<Command<'a>, AllocError>
-    ensures { IfOk result IsLocal }
-{
-    let command = Command::new(alloc, "replay")
-        .about("Replay events through a relay, and print the answer to each")
-        .arg(events(alloc))?;
-    let command = with_options(alloc, command)?;
-    with_replay(alloc, command)
-}
-
-/// Returns the option `--port P`.
-fn port<'a>(alloc: Global) -> Arg<'a>
-    ensures { result.global ≡ false }
-{
-    option(
-        alloc,
-        "port",
-        "P",
-        "The UDP port for clients; TURN's own is 3478",
-    )
-    .required(true)
-}
-
-/// Adds the options of the sockets.
-fn with_sockets<'a>(alloc: Global, command: Command<'a>) -> Result<Command<'a>, AllocError>
-    requires { IsLocal command }
-    ensures { IfOk result IsLocal }
-{
-    command
-        .arg(option(
-            alloc,
-            "listen",
-            "A",
-            "The IPv4 address that the sockets are bound to; 127.0.0.1 by default",
-        ))?
-        .arg(option(
-            alloc,
-            "listen6",
-            "A",
-            "An IPv6 address that each slot has a further socket at; none by default",
-        ))?
-        .arg(option(
-            alloc,
-            "buffer",
-            "BYTES",
-            "What each socket holds of datagrams that came, and of those to send; 4194304 by default",
-        ))?
-        .arg(flag(
-            alloc,
-            "reuse-port",
-            "Let other processes serve the same port; the system keeps each client with one of them",
-        ))
-}
-
-/// Adds the options of the peers that are sent to.
-fn with_filter<'a>(alloc: Global, command: Command<'a>) -> Result<Command<'a>, AllocError>
-    requires { IsLocal command }
-    ensures { IfOk result IsLocal }
-{
-    command
-        .arg(repeated_option(
-            alloc,
-            "deny",
-            "NETWORK",
-            "A network, as 10.0.0.0/8, that nothing is sent to; may be repeated, and the longest prefix decides",
-        ))?
-        .arg(repeated_option(
-            alloc,
-            "allow",
-            "NETWORK",
-            "A network of one that nothing is sent to, that is sent to all the same; may be repeated",
-        ))
-}
-
-/// Adds the options of time, and of what is reported.
-fn with_times<'a>(alloc: Global, command: Command<'a>) -> Result<Command<'a>, AllocError>
-    requires { IsLocal command }
-    ensures { IfOk result IsLocal }
-{
-    command
-        .arg(option(
-            alloc,
-            "rounds",
-            "N",
-            "End after N rounds, which never wait: each tries one receive at each socket",
-        ))?
-        .arg(option(
-            alloc,
-            "nonce-lifetime",
-            "S",
-            "The seconds after which a new nonce is drawn; 3600 by default",
-        ))?
-        .arg(option(
-            alloc,
-            "stats",
-            "S",
-            "Print counters to standard error each S seconds, and after the last round",
-        ))?
-        .arg(option(
-            alloc,
-            "metrics",
-            "FILE",
-            "Write the counters to a file each 15 seconds, in the text format of Prometheus",
-        ))
-}
-
-/// Adds the options of what is written of single events.
-fn with_record<'a>(alloc: Global, command: Command<'a>) -> Result<Command<'a>, AllocError>
-    requires { IsLocal command }
-    ensures { IfOk result IsLocal }
-{
-    command
-        .arg(option(
-            alloc,
-            "record",
-            "FILE",
-            "Write each event to a new file, as replay reads it: what users send is in it",
-        ))?
-        .arg(option(
-            alloc,
-            "record-limit",
-            "BYTES",
-            "What the file of --record has at most, in whole lines; 1073741824 by default",
-        ))?
-        .arg(flag(
-            alloc,
-            "log",
-            "Print allocations and refused credentials to standard error, at most 100 lines a second",
-        ))
-}
-
-/// Returns the subcommand `serve`.
-fn serve<'a>(alloc: Global) -> Result<Command<'a>, AllocError>
-    ensures { IfOk result IsLocal }
-{
-    let command = Command::new(alloc, "serve")
-        .about(
-            "Serve clients and peers over UDP, until it is stopped; programs whose files change are replaced",
-        )
-        .arg(port(alloc))?;
-    let command = with_sockets(alloc, command)?;
-    let command = with_filter(alloc, command)?.arg(flag(
-        alloc,
-        "unconfined",
-        "Let the programs send to and from peers that clients haven't permitted",
-    ))?;
-    let command = with_times(alloc, command)?;
-    let command = with_record(alloc, command)?;
-    with_options(alloc, command)
+    let command = Command::new(alloc, words.name).about(words.about);
+    let command = with_arguments(alloc, command, words.arguments)?;
+    with_arguments(alloc, command, words.shared)
 }
 
 /// Returns the command without its subcommands. With no word after its name it answers with the help.
@@ -579,33 +215,15 @@ fn bare<'a>(alloc: Global) -> Command<'a>
         .subcommand_required(true)
 }
 
-/// Returns the command with the subcommands that read or write texts.
-fn with_texts<'a>(alloc: Global) -> Result<Command<'a>, AllocError>
-    ensures { IfOk result RequiresSubcommand }
-{
-    bare(alloc)
-        .subcommand(assemble(alloc)?)?
-        .subcommand(order(alloc)?)?
-        .subcommand(disassemble(alloc)?)
-}
-
-/// Returns the command with those that look at programs too.
-fn with_reports<'a>(alloc: Global) -> Result<Command<'a>, AllocError>
-    ensures { IfOk result RequiresSubcommand }
-{
-    with_texts(alloc)?
-        .subcommand(verify(alloc)?)?
-        .subcommand(explain(alloc)?)?
-        .subcommand(trace(alloc)?)
-}
-
 /// Returns the whole command.
 fn relayd<'a>(alloc: Global) -> Result<Command<'a>, AllocError>
     ensures { IfOk result RequiresSubcommand }
 {
-    with_reports(alloc)?
-        .subcommand(replay(alloc)?)?
-        .subcommand(serve(alloc)?)
+    let mut command = bare(alloc);
+    for words in &SUBCOMMANDS {
+        command = command.subcommand(command_of(alloc, words)?)?;
+    }
+    Ok(command)
 }
 
 /// Parses the words of a command line, of which the first is the program's name. Where it accepts them, a subcommand is there.

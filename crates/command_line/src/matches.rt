@@ -6,6 +6,7 @@ use crate::defaults::{
 use crate::values::{ValueError, buffer, ip, ip6, number, octets6, port, seconds, slots};
 use crate::{Options, ServerOptions, Subcommand};
 use clap::ArgMatches;
+use std::net::{Ipv4Addr, Ipv6Addr};
 
 /// Returns the text of an argument, if it is given.
 fn text<'a>(matches: &'a ArgMatches<'_>, id: &str) -> Option<&'a str> {
@@ -120,6 +121,52 @@ fn replay_of<'a>(matches: &'a ArgMatches<'_>) -> Result<Option<Subcommand<'a>>, 
     }))
 }
 
+/// What a server's sockets are bound to, and what they hold.
+#[derive(Clone, Copy)]
+struct Sockets {
+    listen: Ipv4Addr,
+    listen6: Option<Ipv6Addr>,
+    buffer: i32,
+}
+
+/// Returns the options of a server's sockets.
+///
+/// # Errors
+/// The first text that spells no value of its option.
+fn sockets_of<'a>(matches: &'a ArgMatches<'_>) -> Result<Sockets, ValueError<'a>> {
+    let listen = ip("--listen <A>", text(matches, "listen"))?;
+    let listen6 = ip6("--listen6 <A>", text(matches, "listen6"))?;
+    let buffer = buffer("--buffer <BYTES>", text(matches, "buffer"))?;
+    Ok(Sockets {
+        listen: listen.unwrap_or(LISTEN),
+        listen6,
+        buffer: buffer.unwrap_or(BUFFER),
+    })
+}
+
+/// What a server does from time to time, and how much it records.
+#[derive(Clone, Copy)]
+struct Limits {
+    nonce_lifetime: u64,
+    stats: Option<u64>,
+    record_limit: u64,
+}
+
+/// Returns the options of a server's times, and of its record.
+///
+/// # Errors
+/// The first text that spells no value of its option.
+fn limits_of<'a>(matches: &'a ArgMatches<'_>) -> Result<Limits, ValueError<'a>> {
+    let nonce_lifetime = seconds("--nonce-lifetime <S>", text(matches, "nonce-lifetime"))?;
+    let stats = seconds("--stats <S>", text(matches, "stats"))?;
+    let record_limit = number("--record-limit <BYTES>", text(matches, "record-limit"))?;
+    Ok(Limits {
+        nonce_lifetime: nonce_lifetime.unwrap_or(NONCE_LIFETIME),
+        stats,
+        record_limit: record_limit.unwrap_or(RECORD_LIMIT),
+    })
+}
+
 /// Returns the subcommand `serve` of its matches, or `None` where the port is missing.
 ///
 /// # Errors
@@ -129,31 +176,35 @@ fn serve_of<'a>(matches: &'a ArgMatches<'_>) -> Result<Option<Subcommand<'a>>, V
         return Ok(None);
     };
     let rounds = number("--rounds <N>", text(matches, "rounds"))?;
-    let listen = ip("--listen <A>", text(matches, "listen"))?;
-    let listen6 = ip6("--listen6 <A>", text(matches, "listen6"))?;
-    let buffer = buffer("--buffer <BYTES>", text(matches, "buffer"))?;
-    let nonce_lifetime = seconds("--nonce-lifetime <S>", text(matches, "nonce-lifetime"))?;
-    let stats = seconds("--stats <S>", text(matches, "stats"))?;
-    let record_limit = number("--record-limit <BYTES>", text(matches, "record-limit"))?;
+    let sockets = sockets_of(matches)?;
+    let limits = limits_of(matches)?;
     let options = options_of(matches)?;
     let server = ServerOptions {
         port,
         rounds,
-        listen: listen.unwrap_or(LISTEN),
-        listen6,
-        buffer: buffer.unwrap_or(BUFFER),
+        listen: sockets.listen,
+        listen6: sockets.listen6,
+        buffer: sockets.buffer,
         reuse_port: is_given(matches, "reuse-port"),
         deny: texts(matches, "deny"),
         allow: texts(matches, "allow"),
-        nonce_lifetime: nonce_lifetime.unwrap_or(NONCE_LIFETIME),
-        stats,
+        relayed_ports: text(matches, "relayed-ports"),
+        nonce_lifetime: limits.nonce_lifetime,
+        stats: limits.stats,
         metrics: text(matches, "metrics"),
         record: text(matches, "record"),
-        record_limit: record_limit.unwrap_or(RECORD_LIMIT),
+        record_limit: limits.record_limit,
         log: is_given(matches, "log"),
         unconfined: is_given(matches, "unconfined"),
     };
     Ok(Some(Subcommand::Serve { server, options }))
+}
+
+/// Returns the subcommand `check` of its matches, or `None` where the server is missing.
+fn check_of<'a>(matches: &'a ArgMatches<'_>) -> Option<Subcommand<'a>> {
+    let server = text(matches, "server")?;
+    let user = text(matches, "user");
+    Some(Subcommand::Check { server, user })
 }
 
 /// Returns the subcommand of this name, of its matches, or `None` where relayd has none of the name, or an argument is missing.
@@ -170,6 +221,7 @@ fn named<'a>(
         "trace" => Ok(trace_of(matches)),
         "replay" => replay_of(matches),
         "serve" => serve_of(matches),
+        "check" => Ok(check_of(matches)),
         _ => Ok(None),
     }
 }

@@ -17,7 +17,7 @@ use Rattle.addresses.specs.declared.address.Family.TheVariants.{Ipv4, Ipv6}
 use Rattle.attributes.specs.Values.{number_of_value}
 use Rattle.credentials.specs.Checks.{first_value}
 use Rattle.credentials.specs.declared.checking.AuthError.{AuthError}
-use Rattle.credentials.specs.declared.checking.AuthError.TheVariants.{Missing, Incomplete, UnknownUser, WrongIntegrity}
+use Rattle.credentials.specs.declared.checking.AuthError.TheVariants.{Missing, Incomplete, UnknownUser, WrongIntegrity, Expired}
 use Rattle.credentials.specs.declared.checking.AuthError.TheVariants as auth
 use Rattle.tables.specs.Rows.{Rows}
 use Rattle.tables.specs.Channels.{is_none_or}
@@ -207,6 +207,7 @@ refused_credentials Incomplete = BadRequest
 refused_credentials auth.StaleNonce = StaleNonce
 refused_credentials UnknownUser = Unauthenticated
 refused_credentials WrongIntegrity = Unauthenticated
+refused_credentials Expired = Unauthenticated
 
 abbrev pub user_or_error : Result ℕ AuthError → Result ℕ ErrorCode
 user_or_error (Ok user) = Ok user

@@ -1,6 +1,7 @@
 -- Meaning. The whole answer to a message: the rows afterwards, the bytes of a reply, none where there is no reply, and what
 -- it says.
-use Rattle.std.specs.Prelude.{◌≡◌, ℕ, true, false, List, [], Option, None, Some, option_map, IsSomeAnd, Result, Ok, Err, string_bytes}
+use Rattle.std.specs.Prelude.{◌≡◌, ℕ, pos, ◌+ℤ◌, true, false, List, [], Option, None, Some, option_map, IsSomeAnd, Result, Ok, Err, string_bytes}
+use Rattle.std.specs.Int.{w64, saturate_unsigned}
 use Rattle.stun.specs.Messages.{Parts, parts_bytes}
 use Rattle.stun.specs.declared.registry.Class.TheVariants as class
 use Rattle.addresses.specs.declared.address.Addr.{Addr}
@@ -26,11 +27,15 @@ use Rattle.stun.specs.declared.registry.ErrorCode.{ErrorCode}
 abbrev pub user_held : Addr → Rows → Option ℕ
 user_held client rows = option_map (λ allocation. allocation.user) (allocation_of client rows)
 
+-- the time by the system's clock at a moment, in seconds since 1970: by as much ahead of it as is configured
+abbrev pub time_at : Config → ℕ → ℕ
+time_at config now = saturate_unsigned w64 (pos now +ℤ config.clock_ahead)
+
 -- whose credentials are accepted from a client at a moment, where these rows are live
 abbrev pub directory_for : Config → Addr → ℕ → Rows → Directory
 directory_for config client now rows = record {
   users = users_of config.users.items;
-  limits = option_map (λ secret. record { secret = secret.items; moment = now; held = user_held client rows }) config.secret;
+  limits = option_map (λ secret. record { secret = secret.items; time = time_at config now; held = user_held client rows }) config.secret;
 }
 
 -- the key that a reply is signed under: that of the account whose credentials were accepted

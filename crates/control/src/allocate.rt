@@ -15,7 +15,7 @@ use crate::values::{family_of, lifetime_of, transport_of};
 use attributes::{Addr, Family};
 use stun::Message;
 use stun::registry::{ErrorCode, family};
-use tables::{Allocation, Tables};
+use tables::{Allocation, Tables, Uncounted};
 
 /// The protocol number of UDP.
 pub const UDP: u8 = 17;
@@ -132,7 +132,7 @@ pub(crate) fn allocate(
         × (tables.new.moment ≤ moment_of tables.old.moment now) }
     ensures slots { length tables.new.slots ≡ length tables.old.slots }
 {
-    let Some(allocation) = tables.allocation_of(client, now) else {
+    let Some(allocation) = tables.allocation_of(client, now, &mut Uncounted) else {
         return allocate_anew(tables, config, client, user, message, now);
     };
     if !is_repeated(&allocation, user, message) {

@@ -34,6 +34,9 @@ pub struct Config {
     pub users: Vec<User>,
     /// The secret of time-limited credentials, 16 to 128 bytes, if such credentials are accepted.
     pub secret: Option<Vec<u8>>,
+    /// How many seconds the system's clock, since 1970, is ahead of the moments. Time-limited credentials expire by that clock,
+    /// and nothing else is by it.
+    pub clock_ahead: i64,
 }
 
 /// A field of a configuration that may lie outside its limits. It displays as its name.

@@ -6,7 +6,7 @@ ghost use Rattle.control.specs.Control.{own_allocation, error_of};
 
 use attributes::Addr;
 use stun::registry::ErrorCode;
-use tables::{Allocation, TableError, Tables};
+use tables::{Allocation, TableError, Tables, Uncounted};
 
 /// Returns the allocation of a client, which must be the user's.
 ///
@@ -21,7 +21,7 @@ pub(crate) fn own_allocation(
     ensures allocation { result ≡ own_allocation client user (rows_at now tables.now) }
     ensures inside { IfOk result (λ a. a.slot < length tables.now.slots) }
 {
-    let Some(allocation) = tables.allocation_of(client, now) else {
+    let Some(allocation) = tables.allocation_of(client, now, &mut Uncounted) else {
         return Err(ErrorCode::AllocationMismatch);
     };
     if allocation.user != user {

@@ -10,7 +10,7 @@ ghost use Rattle.control.specs.Configs.{fault};
 ghost use Rattle.control.specs.Control.{decision_if_understood, refused_credentials};
 ghost use Rattle.control.specs.Serving.{Gives, HasSlotBelow};
 ghost use Rattle.tables.specs.Addresses.{is_ipv4};
-ghost use Rattle.control.specs.Responding.{user_held, directory_for, IsCheckedAnswer, Responds, count_of, response_in};
+ghost use Rattle.control.specs.Responding.{user_held, time_at, directory_for, IsCheckedAnswer, Responds, count_of, response_in};
 ghost use Rattle.control.specs.declared.config.TheConstants.{MAX_TEXT};
 ghost use Rattle.control.specs.declared.reply.TheConstants.{REPLY_BYTES};
 
@@ -28,7 +28,7 @@ use attributes::Addr;
 use credentials::{AuthError, Authenticated, Directory, TimeLimited, authenticate};
 use stun::Message;
 use stun::registry::ErrorCode;
-use tables::{Tables, is_ipv4};
+use tables::{Tables, Uncounted, is_ipv4};
 
 /// A message of a client at a moment.
 #[derive(Clone, Copy)]
@@ -46,9 +46,10 @@ fn refused_credentials(error: AuthError) -> ErrorCode
     ensures { result ≡ refused_credentials error }
 {
     match error {
-        AuthError::Missing | AuthError::UnknownUser | AuthError::WrongIntegrity => {
-            ErrorCode::Unauthenticated
-        }
+        AuthError::Missing
+        | AuthError::UnknownUser
+        | AuthError::WrongIntegrity
+        | AuthError::Expired => ErrorCode::Unauthenticated,
         AuthError::Incomplete => ErrorCode::BadRequest,
         AuthError::StaleNonce => ErrorCode::StaleNonce,
     }
@@ -87,8 +88,16 @@ fn serve(
 fn user_held(tables: &Tables, client: Addr, now: u64) -> Option<usize>
     ensures { result ≡ user_held client (rows_at now tables.now) }
 {
-    let allocation = tables.allocation_of(client, now)?;
+    let allocation = tables.allocation_of(client, now, &mut Uncounted)?;
     Some(allocation.user)
+}
+
+/// Returns the time by the system's clock at a moment, in seconds since 1970.
+/// See docs/DECISIONS.md, "Names expire by the system's clock".
+fn time_at(config: &Config, now: u64) -> u64
+    ensures { result ≡ time_at config.now now }
+{
+    now.saturating_add_signed(config.clock_ahead)
 }
 
 /// Returns what time-limited credentials of a client are checked with at a moment; `None` where there is no secret.
@@ -103,7 +112,7 @@ fn time_limited<'a>(
     match &config.secret {
         Some(secret) => Some(TimeLimited {
             secret,
-            moment: now,
+            time: time_at(config, now),
             held: user_held(tables, client, now),
         }),
         None => None,

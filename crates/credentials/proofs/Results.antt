@@ -1,6 +1,6 @@
 -- The result of a check is that of the function.
-use Rattle.std.proofs.Common.{◌≡◌, ◌≢◌, ℕ, zero, suc, ◌+◌, ◌⊎◌, true, false, List, [], ◌∷◌, refl, sym, ap, ◌∙◌, inl, inr, arith}
-use Rattle.std.specs.Prelude.{bytes_eq, Option, None, Some, Result, Ok, Err, ok_or}
+use Rattle.std.proofs.Common.{◌≡◌, ◌≢◌, ℕ, zero, suc, ◌+◌, ◌⊎◌, Bool, true, false, ◌&&◌, List, [], ◌∷◌, refl, sym, ap, ◌∙◌, subst, inl, inr, arith}
+use Rattle.std.specs.Prelude.{bytes_eq, is_some, if◌then◌else◌, Option, None, Some, Result, Ok, Err, ok_or}
 use Rattle.std.specs.List.{position_from}
 use Rattle.std.proofs.lemmas.Bool.{cond-true, cond-false, false_from_ne_true}
 use Rattle.std.proofs.lemmas.Iterator.Adapters.{position_from-zero}
@@ -9,12 +9,12 @@ use Rattle.basics.specs.Fallible.{◌>>=◌, check}
 use Rattle.stun.specs.Messages.{Parts}
 use Rattle.stun.specs.Registry.{message_integrity}
 use Rattle.stun.specs.declared.registry.attribute.TheConstants.{USERNAME, REALM, NONCE}
-use Rattle.credentials.specs.Checks.{Users, Directory, HasAccount, HasNoAccount, HasCredentials, IsChecked, IsUser, IsNoUser, first_value}
+use Rattle.credentials.specs.Checks.{Users, Directory, HasAccount, HasNoAccount, HasCredentials, lacking, LacksAccount, IsChecked, IsUser, IsNoUser, first_value}
 use Rattle.credentials.specs.Integrity.{integrity_under}
 use Rattle.credentials.specs.Results.{user_of, account_at, check_result}
-use Rattle.credentials.specs.TimeLimited.{Account}
+use Rattle.credentials.specs.TimeLimited.{Account, expiry_of}
 use Rattle.credentials.specs.declared.checking.AuthError.{AuthError}
-use Rattle.credentials.specs.declared.checking.AuthError.TheVariants.{Missing, Incomplete, StaleNonce, UnknownUser, WrongIntegrity}
+use Rattle.credentials.specs.declared.checking.AuthError.TheVariants.{Missing, Incomplete, StaleNonce, UnknownUser, WrongIntegrity, Expired}
 
 same_bytes : (xs ys : List ℕ) → xs ≡ ys → bytes_eq xs ys ≡ true
 same_bytes xs ys e = (bytes_eq-Decides xs ys).1 e
@@ -67,9 +67,9 @@ module _ (p : Parts) (realm : List ℕ) (directory : Directory) (nonce : List �
     _ ← check (bytes_eq right integrity) WrongIntegrity
     Ok account
 
-  abbrev account_tested : List ℕ → Option Account → Result Account AuthError
-  account_tested integrity found = do
-    account ← ok_or found UnknownUser
+  abbrev account_tested : List ℕ → List ℕ → Option Account → Result Account AuthError
+  account_tested integrity name found = do
+    account ← ok_or found (lacking directory name)
     integrity_tested account integrity (integrity_under account.key p)
 
   abbrev account_of_name : List ℕ → Option Account
@@ -78,7 +78,7 @@ module _ (p : Parts) (realm : List ℕ) (directory : Directory) (nonce : List �
   abbrev nonce_tested : List ℕ → List ℕ → List ℕ → Result Account AuthError
   nonce_tested integrity name given = do
     _ ← check (bytes_eq given nonce) StaleNonce
-    account_tested integrity (account_of_name name)
+    account_tested integrity name (account_of_name name)
 
   abbrev all_tested : Option (List ℕ) → Option (List ℕ) → Option (List ℕ) → Option (List ℕ) → Result Account AuthError
   all_tested integrity name realm given = do
@@ -101,13 +101,13 @@ module _ (p : Parts) (realm : List ℕ) (directory : Directory) (nonce : List �
       λ i. all_tested (has.integrity_is i) (has.name_is i) (has.realm_is i) (has.nonce_is i)
 
   -- with the current nonce, the account is looked up
-  looked_up : (integrity name : List ℕ) → HasCredentials p nonce integrity name → check_result p realm directory nonce ≡ account_tested integrity (account_of_name name)
+  looked_up : (integrity name : List ℕ) → HasCredentials p nonce integrity name → check_result p realm directory nonce ≡ account_tested integrity name (account_of_name name)
   looked_up integrity name has =
-      with_all integrity name nonce has ∙ ap (λ b. check b StaleNonce >>= (λ _. account_tested integrity (account_of_name name))) (same_bytes nonce nonce refl)
+      with_all integrity name nonce has ∙ ap (λ b. check b StaleNonce >>= (λ _. account_tested integrity name (account_of_name name))) (same_bytes nonce nonce refl)
 
   of_account : (integrity name : List ℕ) (account : Account) → HasCredentials p nonce integrity name → HasAccount realm directory name account
       → check_result p realm directory nonce ≡ integrity_tested account integrity (integrity_under account.key p)
-  of_account integrity name account has is = looked_up integrity name has ∙ ap (account_tested integrity) (has_account realm directory name account is)
+  of_account integrity name account has is = looked_up integrity name has ∙ ap (account_tested integrity name) (has_account realm directory name account is)
 
   incomplete : (integrity : List ℕ) (a b c : Option (List ℕ)) → (a ≡ None) ⊎ (b ≡ None) ⊎ (c ≡ None) → all_tested (Some integrity) a b c ≡ Err Incomplete
   incomplete integrity None b c h = refl
@@ -121,13 +121,27 @@ module _ (p : Parts) (realm : List ℕ) (directory : Directory) (nonce : List �
   with_some_integrity None a b c some h = absurd (some refl)
   with_some_integrity (Some integrity) a b c some h = incomplete integrity a b c h
 
+  -- a name that lacks an account is refused for the reason that it has
+  pub refused_for : (integrity name : List ℕ) → HasCredentials p nonce integrity name → HasNoAccount realm directory name → (reason : AuthError) → reason ≡ lacking directory name
+      → IsChecked p realm directory nonce (Err reason)
+  refused_for integrity name has none reason is =
+      subst (λ (e : AuthError). IsChecked p realm directory nonce (Err e)) (sym is) (by (is_some directory.limits && is_some (expiry_of name)) refl)
+    where
+      by : (test : Bool) → (is_some directory.limits && is_some (expiry_of name)) ≡ test → IsChecked p realm directory nonce (Err (if test then Expired else UnknownUser))
+      by true e = (integrity, name, has, none, ap (λ (test : Bool). if test then Expired else UnknownUser) e)
+      by false e = (integrity, name, has, none, ap (λ (test : Bool). if test then Expired else UnknownUser) e)
+
+  without_account : (reason : AuthError) → LacksAccount p realm directory nonce reason → Err reason ≡ check_result p realm directory nonce
+  without_account reason (integrity, name, has, none, is) = sym (looked_up integrity name has ∙ ap (account_tested integrity name) (has_no_account realm directory name none) ∙ ap Err is)
+
   pub result_is_checked : (r : Result Account AuthError) → IsChecked p realm directory nonce r → r ≡ check_result p realm directory nonce
   result_is_checked (Ok account) (integrity, name, has, is, right) =
       sym (of_account integrity name account has is ∙ ap (integrity_tested account integrity) right ∙ right_integrity account integrity)
   result_is_checked (Err Missing) none = sym (ap (λ integrity. all_tested integrity (first_value p USERNAME) (first_value p REALM) (first_value p NONCE)) none)
   result_is_checked (Err Incomplete) (some, missing) = sym (with_some_integrity (first_value p message_integrity) (first_value p USERNAME) (first_value p REALM) (first_value p NONCE) some missing)
   result_is_checked (Err StaleNonce) (other, integrity, name, has, ne) =
-      sym (with_all integrity name other has ∙ ap (λ b. check b StaleNonce >>= (λ _. account_tested integrity (account_of_name name))) (other_bytes other nonce ne))
-  result_is_checked (Err UnknownUser) (integrity, name, has, none) = sym (looked_up integrity name has ∙ ap (account_tested integrity) (has_no_account realm directory name none))
+      sym (with_all integrity name other has ∙ ap (λ b. check b StaleNonce >>= (λ _. account_tested integrity name (account_of_name name))) (other_bytes other nonce ne))
+  result_is_checked (Err UnknownUser) lacks = without_account UnknownUser lacks
+  result_is_checked (Err Expired) lacks = without_account Expired lacks
   result_is_checked (Err WrongIntegrity) (integrity, name, account, has, is, wrong) =
       sym (of_account integrity name account has is ∙ wrong_integrity account integrity (integrity_under account.key p) wrong)

@@ -1,5 +1,5 @@
 -- Meaning. The ordered check of a request's credentials (RFC 8489, section 9.2.4).
-use Rattle.std.specs.Prelude.{◌≡◌, ◌≢◌, ℕ, ◌<◌, ◌⊎◌, List, [], length, map, slice_index_or, string_bytes, Option, Some, None, option_map, Result, Ok, Err}
+use Rattle.std.specs.Prelude.{◌≡◌, ◌≢◌, ℕ, ◌<◌, ◌⊎◌, List, [], length, map, slice_index_or, string_bytes, Option, Some, None, option_map, is_some, ◌&&◌, if◌then◌else◌, Result, Ok, Err}
 use Rattle.std.specs.Option.{option_and_then}
 use Rattle.stun.specs.Registry.{message_integrity}
 use Rattle.stun.specs.declared.registry.attribute.TheConstants.{USERNAME, REALM, NONCE}
@@ -7,10 +7,10 @@ use Rattle.stun.specs.Messages.{Parts, message_of}
 use Rattle.stun.specs.Attributes.{value_of}
 use Rattle.credentials.specs.Integrity.{integrity_under}
 use Rattle.credentials.specs.Keys.{key_of, key_bytes}
-use Rattle.credentials.specs.TimeLimited.{Account, Limits, limits_of, limited_account}
+use Rattle.credentials.specs.TimeLimited.{Account, Limits, limits_of, expiry_of, limited_account}
 use Rattle.credentials.specs.declared.checking.Authenticated.{Authenticated}
 use Rattle.credentials.specs.declared.checking.AuthError.{AuthError}
-use Rattle.credentials.specs.declared.checking.AuthError.TheVariants.{Missing, Incomplete, StaleNonce, UnknownUser, WrongIntegrity}
+use Rattle.credentials.specs.declared.checking.AuthError.TheVariants.{Missing, Incomplete, StaleNonce, UnknownUser, WrongIntegrity, Expired}
 use Rattle.credentials.specs.declared.checking.Directory.{Directory as Checked}
 use Rattle.credentials.specs.declared.checking.User.{User}
 
@@ -64,6 +64,10 @@ HasAccount realm directory name account =
     ((index : ℕ) × IsUser directory.users name index × (account ≡ listed_account realm directory.users index))
     ⊎ (IsNoUser directory.users name × (unlisted_account realm directory name ≡ Some account))
 
+-- why a name that has no account has none: it says when it expires, and has expired, or nobody has it
+abbrev pub lacking : Directory → List ℕ → AuthError
+lacking directory name = if is_some directory.limits && is_some (expiry_of name) then Expired else UnknownUser
+
 abbrev pub HasNoAccount : List ℕ → Directory → List ℕ → Type 0
 HasNoAccount realm directory name = IsNoUser directory.users name × (unlisted_account realm directory name ≡ None)
 
@@ -80,6 +84,11 @@ pub record HasCredentials (p : Parts) (nonce integrity name : List ℕ) : Type 0
   pub realm_is : first_value p REALM ≡ Some realm
   pub nonce_is : first_value p NONCE ≡ Some nonce
 
+-- a message's name has no account for a reason
+abbrev pub LacksAccount : Parts → List ℕ → Directory → List ℕ → AuthError → Type 0
+LacksAccount p realm directory nonce reason =
+    (integrity : List ℕ) × (name : List ℕ) × HasCredentials p nonce integrity name × HasNoAccount realm directory name × (lacking directory name ≡ reason)
+
 -- the result of the check: an account, or the first test that fails; the realm that a message names is not compared
 abbrev pub IsChecked : Parts → List ℕ → Directory → List ℕ → Result Account AuthError → Type 0
 IsChecked p realm directory nonce (Ok account) =
@@ -90,8 +99,8 @@ IsChecked p realm directory nonce (Err Incomplete) =
     (first_value p message_integrity ≢ None) × ((first_value p USERNAME ≡ None) ⊎ (first_value p REALM ≡ None) ⊎ (first_value p NONCE ≡ None))
 IsChecked p realm directory nonce (Err StaleNonce) =
     (other : List ℕ) × (integrity : List ℕ) × (name : List ℕ) × HasCredentials p other integrity name × (other ≢ nonce)
-IsChecked p realm directory nonce (Err UnknownUser) =
-    (integrity : List ℕ) × (name : List ℕ) × HasCredentials p nonce integrity name × HasNoAccount realm directory name
+IsChecked p realm directory nonce (Err UnknownUser) = LacksAccount p realm directory nonce UnknownUser
+IsChecked p realm directory nonce (Err Expired) = LacksAccount p realm directory nonce Expired
 IsChecked p realm directory nonce (Err WrongIntegrity) =
     (integrity : List ℕ) × (name : List ℕ) × (account : Account) × HasCredentials p nonce integrity name
     × HasAccount realm directory name account × (integrity_under account.key p ≢ Some integrity)

@@ -6,11 +6,11 @@ use Rattle.basics.specs.Fallible.{◌>>=◌, check}
 use Rattle.stun.specs.Registry.{message_integrity}
 use Rattle.stun.specs.declared.registry.attribute.TheConstants.{USERNAME, REALM, NONCE}
 use Rattle.stun.specs.Messages.{Parts}
-use Rattle.credentials.specs.Checks.{Users, Directory, first_value, listed_account, unlisted_account}
+use Rattle.credentials.specs.Checks.{Users, Directory, first_value, listed_account, unlisted_account, lacking}
 use Rattle.credentials.specs.Integrity.{integrity_under}
 use Rattle.credentials.specs.TimeLimited.{Account}
 use Rattle.credentials.specs.declared.checking.AuthError.{AuthError}
-use Rattle.credentials.specs.declared.checking.AuthError.TheVariants.{Missing, Incomplete, StaleNonce, UnknownUser, WrongIntegrity}
+use Rattle.credentials.specs.declared.checking.AuthError.TheVariants.{Missing, Incomplete, StaleNonce, WrongIntegrity}
 
 -- the index of the first user of a name, if there is one
 abbrev pub user_of : Users → List ℕ → Option ℕ
@@ -29,7 +29,7 @@ check_result p realm directory nonce = do
   _ ← ok_or (first_value p REALM) Incomplete
   given ← ok_or (first_value p NONCE) Incomplete
   _ ← check (bytes_eq given nonce) StaleNonce
-  account ← ok_or (account_at realm directory name (user_of directory.users name)) UnknownUser
+  account ← ok_or (account_at realm directory name (user_of directory.users name)) (lacking directory name)
   right ← ok_or (integrity_under account.key p) WrongIntegrity
   _ ← check (bytes_eq right integrity) WrongIntegrity
   Ok account

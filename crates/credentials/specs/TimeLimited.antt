@@ -16,21 +16,21 @@ pub record Account : Type 0 where
   pub user : ℕ
   pub key : List ℕ
 
--- a secret, the current moment in seconds since 1970, and the user of the allocation that the client has, if it has one
+-- a secret, the current time in seconds since 1970, and the user of the allocation that the client has, if it has one
 pub record Limits : Type 0 where
   pub secret : List ℕ
-  pub moment : ℕ
+  pub time : ℕ
   pub held : Option ℕ
 
 abbrev pub limits_of : TimeLimited → Limits
-limits_of limited = record { secret = limited.secret.now; moment = limited.moment; held = limited.held }
+limits_of limited = record { secret = limited.secret.now; time = limited.time; held = limited.held }
 
 -- ---- names
 
 abbrev pub is_colon : ℕ → Bool
 is_colon byte = byte == 0x3a
 
--- the moment at which a name of at most 128 bytes expires: what precedes its first colon, or all of it
+-- the time at which a name of at most 128 bytes expires: what precedes its first colon, or all of it
 abbrev pub expiry_of : List ℕ → Option ℕ
 expiry_of name = if nat_le (length name) 128 then decimal_in (2 ^ 64) (before_first is_colon name) else None
 
@@ -48,9 +48,9 @@ abbrev pub is_held_by : Option ℕ → ℕ → Bool
 is_held_by None user = false
 is_held_by (Some held) user = held == user
 
--- whether a name that expires at a moment is accepted: it hasn't expired, or the client's allocation is its own
+-- whether a name that expires at a time is accepted: it hasn't expired, or the client's allocation is its own
 abbrev pub is_accepted : Limits → List ℕ → ℕ → Bool
-is_accepted limits name expiry = nat_lt limits.moment expiry || is_held_by limits.held (user_number limits.secret name)
+is_accepted limits name expiry = nat_lt limits.time expiry || is_held_by limits.held (user_number limits.secret name)
 
 -- the account of a name, if it is accepted
 abbrev pub limited_account : List ℕ → Limits → List ℕ → Option Account

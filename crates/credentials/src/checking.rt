@@ -6,14 +6,14 @@ ghost use Rattle.stun.specs.Messages.{Parts};
 ghost use Rattle.credentials.specs.Keys.{key_of, key_bytes};
 ghost use Rattle.credentials.specs.Integrity.{integrity_under};
 ghost use Rattle.credentials.specs.TimeLimited.{Account};
-ghost use Rattle.credentials.specs.Checks.{users_of, Directory as Accounts, directory_of, listed_only, account_of, user_in, unlisted_account, IsUser, IsNoUser, HasAccount, HasNoAccount, HasCredentials, IsChecked};
+ghost use Rattle.credentials.specs.Checks.{users_of, Directory as Accounts, directory_of, listed_only, account_of, user_in, unlisted_account, lacking, IsUser, IsNoUser, HasAccount, HasNoAccount, HasCredentials, IsChecked};
 ghost use Rattle.credentials.specs.Results.{check_result};
 ghost use Rattle.credentials.specs.declared.checking.AuthError.{AuthError};
 
 use crate::key::Key;
 use crate::scanning::credentials_of;
 use crate::signing::integrity_over;
-use crate::time_limited::TimeLimited;
+use crate::time_limited::{TimeLimited, expiry_of};
 use stun::Message;
 use thiserror::Error;
 
@@ -35,6 +35,9 @@ pub enum AuthError {
     /// The MESSAGE-INTEGRITY is wrong, or hasn't 20 bytes.
     #[error("C5")]
     WrongIntegrity,
+    /// The name is of time-limited credentials, and has expired.
+    #[error("C6")]
+    Expired,
 }
 
 /// A user: a name and a password.
@@ -159,6 +162,17 @@ impl Directory<'_> {
         time_limited.account(realm, name)
     }
 
+    /// Returns why a name has no account: it has expired, or nobody has it.
+    fn lacking(&self, name: &[u8]) -> AuthError
+        ensures { result ≡ lacking (directory_of self.now) name.now }
+    {
+        if self.time_limited.is_some() && expiry_of(name).is_some() {
+            AuthError::Expired
+        } else {
+            AuthError::UnknownUser
+        }
+    }
+
     /// Returns the account of a name in a realm.
     /// See docs/DECISIONS.md, "The key of a check".
     fn account(&self, realm: &str, name: &[u8]) -> Option<Authenticated>
@@ -195,7 +209,7 @@ pub fn authenticate(
 {
     let (integrity, name) = presented(message, nonce)?;
     let Some(account) = directory.account(realm, name) else {
-        return Err(AuthError::UnknownUser);
+        return Err(directory.lacking(name));
     };
     if is_integrity(message, &account.key, integrity) {
         Ok(account)

@@ -26,8 +26,8 @@ const PASSWORD: usize = 28;
 pub struct TimeLimited<'a> {
     /// The secret that gives each name its password.
     pub secret: &'a [u8],
-    /// The current moment, in seconds since 1970.
-    pub moment: u64,
+    /// The current time, in seconds since 1970.
+    pub time: u64,
     /// The user of the allocation that the client has, if it has one.
     pub held: Option<usize>,
 }
@@ -50,7 +50,7 @@ fn before_colon(name: &[u8]) -> &[u8]
 }
 
 /// Returns the moment at which a name expires, in seconds since 1970; `None` where it names none.
-fn expiry_of(name: &[u8]) -> Option<u64>
+pub(crate) fn expiry_of(name: &[u8]) -> Option<u64>
     ensures { result ≡ expiry_of name.now }
 {
     if name.len() <= MAX_NAME {
@@ -94,7 +94,7 @@ impl TimeLimited<'_> {
         let expiry = expiry_of(name)?;
         let digest = hmac_sha1(self.secret, &[name]);
         let user = user_number(&digest);
-        if self.moment < expiry || self.is_held_by(user) {
+        if self.time < expiry || self.is_held_by(user) {
             let key = Key::of(name, realm, &password_of(&digest));
             Some(Authenticated { user, key })
         } else {

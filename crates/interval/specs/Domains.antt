@@ -1,5 +1,5 @@
 -- Meaning. Abstract numbers: their operations, and the laws that make them sound.
-use Rattle.std.specs.Prelude.{◌≡◌, ℕ, ◌-◌, ◌≤◌, ◌<◌, ◌^◌, ◌⊎◌, Bool, true, not, Option, Some, None}
+use Rattle.std.specs.Prelude.{◌≡◌, ℕ, ◌≤◌, ◌<◌, ◌^◌, Bool, true, not, Option, Some, None}
 use Rattle.insn.specs.Words.{alu, unary, holds}
 use Rattle.insn.specs.declared.width.Width.{Width}
 use Rattle.insn.specs.declared.operator.AluOp.{AluOp}
@@ -24,9 +24,9 @@ pub record Operations (D : Type 0) : Type 0 where
   pub refine : Test → Width → D → D → Option (D × D)
   pub covers : D → D → Bool
 
--- how far the greatest word between bounds is from the least
-abbrev pub span : Bounds → ℕ
-span b = b.hi - b.lo
+-- bounds that lie between other ones
+abbrev pub LieBetween : Bounds → Bounds → Type 0
+LieBetween outer inner = (outer.lo ≤ inner.lo) × (inner.lo ≤ inner.hi) × (inner.hi ≤ outer.hi)
 
 -- a pair of words is among those that a refinement keeps
 abbrev pub KeepsPair : {D : Type 0} → (D → ℕ → Type 0) → Option (D × D) → ℕ → ℕ → Type 0
@@ -41,8 +41,8 @@ pub record HasMembers {D : Type 0} (Member : D → ℕ → Type 0) (pair : D × 
   pub of_second : Member pair.1 second
 
 -- The laws: results of members are members; a refinement keeps each pair of members that passes the test, and is
--- empty only where no pair passes it; where x covers y, members of y are members of x, and y has nearer bounds or the same
--- ones.
+-- empty only where no pair passes it; where x covers y, members of y are members of x, and the bounds of y lie between those
+-- of x.
 pub record AreSound {D : Type 0} (ops : Operations D) (Member : D → ℕ → Type 0) : Type 0 where
   pub words : (x : D) (n : ℕ) → Member x n → n < 2 ^ 64
   pub top : (n : ℕ) → n < 2 ^ 64 → Member ops.top n
@@ -53,7 +53,7 @@ pub record AreSound {D : Type 0} (ops : Operations D) (Member : D → ℕ → Ty
   pub unary : (op : UnaryOp) (x : D) (n : ℕ) → Member x n → Member (ops.unary op x) (unary op n)
   pub refine : (test : Test) (w : Width) (x y : D) (m n : ℕ) → Member x m → Member y n → passes test w m n ≡ true → KeepsPair Member (ops.refine test w x y) m n
   pub covers : (x y : D) (n : ℕ) → ops.covers x y ≡ true → Member y n → Member x n
-  pub covered_nearer : (x y : D) → ops.covers x y ≡ true → (span (ops.bounds y) < span (ops.bounds x)) ⊎ (ops.bounds y ≡ ops.bounds x)
+  pub covered_between : (x y : D) → ops.covers x y ≡ true → LieBetween (ops.bounds x) (ops.bounds y)
 
 -- What refusals that are real need besides: an exact number has itself as its bounds, and what a refinement leaves of
 -- operands with members has members.

@@ -53,6 +53,8 @@ pub enum RecordEnd {
     Programs,
     #[error("the users are replaced")]
     Users,
+    #[error("the clock was set")]
+    Clock,
     /// It has as many whole lines as it may.
     #[error("it may have {0} bytes")]
     Length(u64),

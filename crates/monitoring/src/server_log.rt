@@ -70,6 +70,9 @@ enum RefusalReason {
     UnknownUser,
     #[error("wrong password")]
     WrongPassword,
+    /// The name is of time-limited credentials, and its time has passed.
+    #[error("expired")]
+    Expired,
     /// They are right, but the client's allocation is another user's.
     #[error("another user's allocation")]
     OtherUser,
@@ -206,9 +209,9 @@ impl Counts {
             Happening::Refused(RefusalReason::WrongPassword | RefusalReason::OtherUser) => {
                 count_one(&mut self.users, USER_LINES)
             }
-            Happening::Refused(RefusalReason::Incomplete | RefusalReason::UnknownUser) => {
-                count_one(&mut self.strangers, STRANGER_LINES)
-            }
+            Happening::Refused(
+                RefusalReason::Incomplete | RefusalReason::UnknownUser | RefusalReason::Expired,
+            ) => count_one(&mut self.strangers, STRANGER_LINES),
         }
     }
 }
@@ -248,6 +251,7 @@ fn refusal_of(response: Response) -> Option<RefusalReason> {
         Response::Unauthenticated(AuthError::Incomplete) => Some(RefusalReason::Incomplete),
         Response::Unauthenticated(AuthError::UnknownUser) => Some(RefusalReason::UnknownUser),
         Response::Unauthenticated(AuthError::WrongIntegrity) => Some(RefusalReason::WrongPassword),
+        Response::Unauthenticated(AuthError::Expired) => Some(RefusalReason::Expired),
         Response::Refused(ErrorCode::WrongCredentials) => Some(RefusalReason::OtherUser),
         _ => None,
     }

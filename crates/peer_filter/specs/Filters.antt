@@ -1,8 +1,9 @@
 -- Meaning. Which rule decides on an address, and which peers a filter allows.
-use Rattle.std.specs.Prelude.{◌≡◌, ◌<◌, ◌≤◌, Bool, true, false, not, ◌&&◌, nat_eq, nat_lt, List, [], ◌∷◌, ◌++◌, length, Option, Some, None, Result, Ok, Err, if◌then◌else◌, ⊤, filter}
+use Rattle.std.specs.Prelude.{◌≡◌, ◌<◌, ◌≤◌, Bool, true, false, not, ◌&&◌, ◌||◌, nat_eq, nat_lt, List, [], ◌∷◌, ◌++◌, length, Option, Some, None, Result, Ok, Err, if◌then◌else◌, ⊤, filter}
 use Rattle.std.specs.List.{list_any}
-use Rattle.addresses.specs.AddressOrder.{is_same_address}
-use Rattle.addresses.specs.Addresses.{port_of}
+use Rattle.std.specs.Ordering.{eq_by_cmp}
+use Rattle.addresses.specs.AddressOrder.{ip_cmp, is_same_address}
+use Rattle.addresses.specs.Addresses.{ip_of, port_of}
 use Rattle.addresses.specs.declared.address.Addr.{Addr}
 use Rattle.addresses.specs.declared.address.Addr.TheVariants.{V4, V6}
 use Rattle.addresses.specs.declared.address.Family.{Family}
@@ -15,14 +16,19 @@ use Rattle.peer_filter.specs.declared.filter.TheConstants.{MAX_RULES, MAX_ENDPOI
 use Rattle.peer_filter.specs.declared.rule.Action.{Action}
 use Rattle.peer_filter.specs.declared.rule.Action.TheVariants.{Deny, Allow}
 use Rattle.peer_filter.specs.declared.rule.ServerEndpoint.{ServerEndpoint}
-use Rattle.peer_filter.specs.declared.rule.ServerEndpoint.TheVariants.{At, Port}
+use Rattle.peer_filter.specs.declared.rule.ServerEndpoint.TheVariants.{At, Port, Outside}
 use Rattle.peer_filter.specs.declared.rule.Loopback.{Loopback}
 use Rattle.peer_filter.specs.declared.rule.Rule.{Rule}
 
--- whether an endpoint of the server is that of a peer
+-- whether two addresses have the same IP address
+abbrev pub is_same_ip : Addr → Addr → Bool
+is_same_ip a b = eq_by_cmp ip_cmp (ip_of a) (ip_of b)
+
+-- whether a peer is at an endpoint of the server
 abbrev pub is_at : Addr → ServerEndpoint → Bool
 is_at peer (At address) = is_same_address address peer
 is_at peer (Port port) = nat_eq port (port_of peer)
+is_at peer (Outside ip first last) = is_same_ip ip peer && (nat_lt (port_of peer) first || nat_lt last (port_of peer))
 
 -- ---- rules
 

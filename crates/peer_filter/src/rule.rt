@@ -1,9 +1,7 @@
 //! Rules over networks, and endpoints.
 
 ghost use Rattle.std.specs.Prelude.{◌≡◌};
-ghost use Rattle.std.specs.Ordering.{eq_by_cmp};
-ghost use Rattle.addresses.specs.Addresses.{ip_of};
-ghost use Rattle.addresses.specs.AddressOrder.{ip_cmp};
+ghost use Rattle.peer_filter.specs.Filters.{is_same_ip};
 
 use crate::network::Network;
 use attributes::Addr;
@@ -50,13 +48,15 @@ impl Default for Rule {
     }
 }
 
-/// An endpoint of the server, to which nothing is sent.
+/// Endpoints of the server, to which nothing is sent.
 #[derive(Clone, Copy, Debug, PartialEq, Eq)]
 pub enum ServerEndpoint {
     /// One transport address.
     At(Addr),
     /// A port of every address.
     Port(u16),
+    /// Each port of an IP address but those from a first to a last one. The port of the address is not looked at.
+    Outside { ip: Addr, first: u16, last: u16 },
 }
 
 impl Default for ServerEndpoint {
@@ -68,7 +68,7 @@ impl Default for ServerEndpoint {
 
 /// Returns whether two addresses have the same IP address.
 fn is_same_ip(a: &Addr, b: &Addr) -> bool
-    ensures { result ≡ eq_by_cmp ip_cmp (ip_of a.now) (ip_of b.now) }
+    ensures { result ≡ is_same_ip a.now b.now }
 {
     a.cmp_ip(b).is_eq()
 }
@@ -77,7 +77,7 @@ impl ServerEndpoint {
     ghost use Rattle.std.specs.Prelude.{◌≡◌};
     ghost use Rattle.peer_filter.specs.Filters.{is_at};
 
-    /// Returns whether the endpoint is that of a peer.
+    /// Returns whether a peer is at the endpoint, or at one of the endpoints.
     pub fn is_at(&self, peer: &Addr) -> bool
         ensures { result ≡ is_at peer.now self.now }
     {
@@ -86,6 +86,9 @@ impl ServerEndpoint {
                 address.port() == peer.port() && is_same_ip(address, peer)
             }
             ServerEndpoint::Port(port) => *port == peer.port(),
+            ServerEndpoint::Outside { ip, first, last } => {
+                is_same_ip(ip, peer) && (peer.port() < *first || *last < peer.port())
+            }
         }
     }
 }

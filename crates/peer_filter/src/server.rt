@@ -1,13 +1,19 @@
 //! The filter of a server, by where it listens and from where it relays.
 
-ghost use Rattle.std.specs.Prelude.{◌≡◌, ◌↔◌, IsTrue};
+ghost use Rattle.std.specs.Prelude.{◌≡◌, ◌≤◌, ◌<◌, ◌+◌, ◌++◌, ◌↔◌, IsTrue, length};
 ghost use Rattle.std.specs.Net.Addr.{IsLoopbackV4};
-ghost use Rattle.peer_filter.specs.Servers.{clients_at, IsFilterOf, IsLoopbackAt6};
+ghost use Rattle.std.specs.Option.{option_to_list};
+ghost use Rattle.peer_filter.specs.Servers.{clients_at, outside, IsClientPort, IsFilterOf, IsLoopbackAt6, IsOutsideV4, IsOutsideV6};
+ghost use Rattle.peer_filter.specs.declared.filter.TheConstants.{MAX_ENDPOINTS};
 
-use crate::filter::{FilterError, PeerFilter};
+use crate::filter::{FilterError, MAX_ENDPOINTS, PeerFilter};
 use crate::rule::{Loopback, Rule, ServerEndpoint};
+use arrayvec::ArrayVec;
 use attributes::Addr;
 use std::net::{Ipv4Addr, Ipv6Addr};
+
+/// Endpoints of a server.
+type Endpoints = ArrayVec<ServerEndpoint, MAX_ENDPOINTS>;
 
 /// Where a server listens, and from where it relays.
 #[derive(Clone, Copy)]
@@ -20,6 +26,10 @@ pub struct ServerAddresses {
     pub port: u16,
     /// The relayed IPv4 address.
     pub relayed: Ipv4Addr,
+    /// The relayed IPv6 address, if there is one.
+    pub relayed6: Option<Ipv6Addr>,
+    /// The first port at which the server's addresses are peers, and the last one.
+    pub relayed_ports: (u16, u16),
 }
 
 /// Returns at which loopback addresses a server listens.
@@ -47,10 +57,69 @@ fn clients_at(server: &ServerAddresses, ip: Ipv4Addr) -> ServerEndpoint
     })
 }
 
+/// Returns the clients' port of any address where a server listens at all of them, and else of the one that it listens at and of
+/// the relayed one.
+fn client_endpoints(server: &ServerAddresses) -> Endpoints
+    ensures own { IsClientPort server.now result.items }
+    ensures few { length result.items ≤ 2 }
+{
+    let mut own = ArrayVec::new();
+    if server.listen.is_unspecified() {
+        own.push(ServerEndpoint::Port(server.port));
+    } else {
+        own.push(clients_at(server, server.listen));
+        own.push(clients_at(server, server.relayed));
+    }
+    own
+}
+
+/// Returns the ports of an IP address of a server at which nothing is relayed.
+fn outside(server: &ServerAddresses, ip: Addr) -> ServerEndpoint
+    ensures { result ≡ outside server.now ip }
+{
+    let (first, last) = server.relayed_ports;
+    ServerEndpoint::Outside { ip, first, last }
+}
+
+/// Returns the ports of an IPv4 address of a server at which no peer is; none of a loopback address, or of all addresses.
+fn outside_v4(server: &ServerAddresses, ip: Ipv4Addr) -> Option<ServerEndpoint>
+    ensures { IsOutsideV4 server.now ip result }
+{
+    if ip.is_loopback() || ip.is_unspecified() {
+        return None;
+    }
+    let ip = ip.octets();
+    Some(outside(server, Addr::V4 { ip, port: 0 }))
+}
+
+/// Returns the ports of an IPv6 address of a server at which no peer is; none of a loopback address, or of all addresses.
+fn outside_v6(server: &ServerAddresses, ip: Option<Ipv6Addr>) -> Option<ServerEndpoint>
+    ensures { IsOutsideV6 server.now ip result }
+{
+    let ip = ip?;
+    if ip.is_loopback() || ip.is_unspecified() {
+        return None;
+    }
+    let ip = ip.octets();
+    Some(outside(server, Addr::V6 { ip, port: 0 }))
+}
+
+/// Appends an endpoint, if there is one.
+fn push_some(own: &mut Endpoints, endpoint: Option<ServerEndpoint>)
+    requires { length own.old.items < MAX_ENDPOINTS }
+    ensures own { own.new.items ≡ own.old.items ++ option_to_list endpoint }
+    ensures few { length own.new.items ≤ length own.old.items + 1 }
+{
+    if let Some(endpoint) = endpoint {
+        own.push(endpoint);
+    }
+}
+
 impl PeerFilter {
     /// Makes the filter of a server: nothing is sent to the clients' port of the address that it listens at and of the relayed
-    /// one, or to that port of any address where it listens at all of them; nor to loopback addresses of a family, unless it
-    /// listens at one; and else the rules decide.
+    /// one, or to that port of any address where it listens at all of them; nor to another port of an address of its own than
+    /// those at which it relays, unless it is a loopback address; nor to loopback addresses of a family, unless it listens at one;
+    /// and else the rules decide.
     /// See docs/DECISIONS.md, "Peers that nothing is sent to".
     ///
     /// # Errors
@@ -58,14 +127,11 @@ impl PeerFilter {
     pub fn of_server(server: &ServerAddresses, rules: &[Rule]) -> Result<PeerFilter, FilterError>
         ensures { IsFilterOf server.now rules.now result }
     {
-        let loopback = loopback_of(server);
-        if server.listen.is_unspecified() {
-            return PeerFilter::new(loopback, &[ServerEndpoint::Port(server.port)], rules);
-        }
-        let own = [
-            clients_at(server, server.listen),
-            clients_at(server, server.relayed),
-        ];
-        PeerFilter::new(loopback, &own, rules)
+        let mut own = client_endpoints(server);
+        push_some(&mut own, outside_v4(server, server.listen));
+        push_some(&mut own, outside_v4(server, server.relayed));
+        push_some(&mut own, outside_v6(server, server.listen6));
+        push_some(&mut own, outside_v6(server, server.relayed6));
+        PeerFilter::new(loopback_of(server), &own, rules)
     }
 }

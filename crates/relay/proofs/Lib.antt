@@ -10,6 +10,7 @@ mod FirstLines
 mod Frames
 mod HarmlessSteps
 mod KeptRows
+mod KeyCounts
 mod LineLengths
 mod LiveSlots
 mod NewUsers
@@ -23,4 +24,5 @@ mod ShippedReasons
 mod ShippedRules
 mod ShippedRuns
 mod Unconfined
+mod ValidUsers
 mod Windows

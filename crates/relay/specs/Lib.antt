@@ -6,6 +6,7 @@ pub mod Errors
 pub mod Found
 pub mod Grounds
 pub mod Harmless
+pub mod KeysCompared
 pub mod ReadLines
 pub mod ReasonTexts
 pub mod Reasons

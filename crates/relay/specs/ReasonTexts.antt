@@ -29,6 +29,7 @@ credentials_text auth.Incomplete = codes "incomplete credentials"
 credentials_text auth.StaleNonce = codes "stale nonce"
 credentials_text auth.UnknownUser = codes "unknown user"
 credentials_text auth.WrongIntegrity = codes "wrong password"
+credentials_text auth.Expired = codes "expired"
 
 abbrev pub response_text : Response → List ℕ
 response_text (response.Granted grant) = grant_text grant

@@ -1,19 +1,20 @@
 //! What a step finds, before it is lent.
 
-ghost use Rattle.std.specs.Prelude.{◌≡◌, ℕ, List, option_map, option_copied};
+ghost use Rattle.std.specs.Prelude.{◌≡◌, ◌≤◌, ◌+◌, ℕ, List, option_map, option_copied};
 ghost use Rattle.tables.specs.Rows.{rows_at};
 ghost use Rattle.tables.specs.WellFormed.{AreWellFormed};
 ghost use Rattle.events.specs.Actions.{sending_of};
 ghost use Rattle.events.specs.Events.{ToClient, ToPeer};
 ghost use Rattle.programs.specs.Runs.{planned_sending};
 ghost use Rattle.relay.specs.ByPrograms.{disposition_of_sent, let_through};
+ghost use Rattle.relay.specs.KeysCompared.{keys_of_permitting};
 ghost use Rattle.relay.specs.Found.{asked, disposition_of_found, may_come, may_go, sending_of_found, held_for, window_shown, HasRoomFor};
 ghost use Rattle.relay.specs.Relays.{RelayContents};
 
 use attributes::Addr;
 use events::{Action, Source};
 use rules::{Answer, Confinement, Discard};
-use tables::LiveSlot;
+use tables::{Count, LiveSlot};
 
 /// What is to be sent, as a step finds it.
 #[derive(Clone, Copy)]
@@ -32,43 +33,58 @@ pub(crate) enum Found {
 
 /// Returns whether data may go to a peer: anywhere, where programs are not confined, or where that isn't asked.
 #[inline(always)]
-fn may_go(confinement: &Option<Confinement>, asks: bool, live: &LiveSlot<'_>, peer: Addr) -> bool
-    ensures { result ≡ may_go (asked asks confinement.now) live.now peer }
+fn may_go<C: Count>(
+    confinement: &Option<Confinement>,
+    asks: bool,
+    live: &LiveSlot<'_>,
+    peer: Addr,
+    keys: &mut C,
+) -> bool
+    ensures may { result ≡ may_go (asked asks confinement.now) live.now peer }
+    ensures keys { C.count keys.new ≤ C.count keys.old + keys_of_permitting confinement.now }
 {
     if !asks {
         return true;
     }
     match confinement {
         None => true,
-        Some(confinement) => confinement.lets_reach(live, peer),
+        Some(confinement) => confinement.lets_reach(live, peer, keys),
     }
 }
 
 /// Returns whether data may come from a peer: from anywhere, where programs are not confined, or where that isn't asked.
 #[inline(always)]
-fn may_come(confinement: &Option<Confinement>, asks: bool, live: &LiveSlot<'_>, peer: Addr) -> bool
-    ensures { result ≡ may_come (asked asks confinement.now) live.now peer }
+fn may_come<C: Count>(
+    confinement: &Option<Confinement>,
+    asks: bool,
+    live: &LiveSlot<'_>,
+    peer: Addr,
+    keys: &mut C,
+) -> bool
+    ensures may { result ≡ may_come (asked asks confinement.now) live.now peer }
+    ensures keys { C.count keys.new ≤ C.count keys.old + keys_of_permitting confinement.now }
 {
     if !asks {
         return true;
     }
     match confinement {
         None => true,
-        Some(confinement) => confinement.lets_in(live, peer),
+        Some(confinement) => confinement.lets_in(live, peer, keys),
     }
 }
 
 /// Returns the finding of what verdict 2 sends, by what is live in the slot in which helpers look up. Nothing goes to an
 /// address that isn't of the allocation's family, and where programs are confined and that is asked, nothing goes to a peer, or
-/// comes from one, that the client hasn't permitted.
+/// comes from one, that the client hasn't permitted. `keys` counts the keys that are compared.
 /// See docs/DECISIONS.md, "One family" and "Confined programs".
 #[inline(always)]
-pub(crate) fn window_found(
+pub(crate) fn window_found<C: Count>(
     from: &Source,
     live: &Option<LiveSlot<'_>>,
     destination: Option<Addr>,
     confinement: &Option<Confinement>,
     asks: bool,
+    keys: &mut C,
 ) -> Found
     ensures sends { (r : RelayContents) → AreWellFormed (rows_at r.greatest r.rows)
         → live.now ≡ held_for from.now (rows_at r.greatest r.rows)
@@ -79,6 +95,7 @@ pub(crate) fn window_found(
         → disposition_of_found r from.now result ≡ disposition_of_sent (asked asks confinement.now) from.now (rows_at r.greatest r.rows)
         (planned_sending from.now (rows_at r.greatest r.rows) destination (window_shown r.frame)) }
     ensures room { (reply : List ℕ) → HasRoomFor result reply }
+    ensures keys { C.count keys.new ≤ C.count keys.old + keys_of_permitting confinement.now }
 {
     let Some(live) = live else {
         return Found::Nothing(Discard::ByProgram);
@@ -92,7 +109,7 @@ pub(crate) fn window_found(
             if !peer.is_of_family(allocation.family) {
                 return Found::Nothing(Discard::ByProgram);
             }
-            if !may_go(confinement, asks, live, peer) {
+            if !may_go(confinement, asks, live, peer, keys) {
                 return Found::Stopped;
             }
             Found::WindowToPeer {
@@ -101,7 +118,7 @@ pub(crate) fn window_found(
             }
         }
         Source::Peer { addr, .. } => {
-            if !may_come(confinement, asks, live, addr) {
+            if !may_come(confinement, asks, live, addr, keys) {
                 return Found::Stopped;
             }
             Found::WindowToClient {

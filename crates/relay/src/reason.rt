@@ -81,6 +81,7 @@ fn credentials_text(error: AuthError) -> &'static [u8]
         AuthError::StaleNonce => b"stale nonce",
         AuthError::UnknownUser => b"unknown user",
         AuthError::WrongIntegrity => b"wrong password",
+        AuthError::Expired => b"expired",
     }
 }
 

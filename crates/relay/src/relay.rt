@@ -23,7 +23,7 @@ use programs::{PASSES, SENDS};
 use rules::{Answer, Confinement, Discard, answer_client, discard_by_rules};
 use std::alloc::Global;
 use std::marker::Model;
-use tables::{Tables, is_ipv4, moment_of};
+use tables::{Count, Tables, Uncounted, is_ipv4, moment_of};
 
 /// A relay: its configuration, the programs of both sides, what confines them, and its tables.
 /// See docs/DECISIONS.md, "The greatest moment is the relay's".
@@ -77,7 +77,7 @@ fn is_served(from: &Source, tables: &Tables) -> bool
 }
 
 impl Relay {
-    ghost use Rattle.std.specs.Prelude.{◌≡◌, ◌≤◌, ◌↔◌, IsOk, IsTrue, is_some, IfOk, IfErr, OnOk, OnErr, length, true, None, unwrap_or};
+    ghost use Rattle.std.specs.Prelude.{◌≡◌, ◌≤◌, ◌↔◌, IsOk, IsTrue, is_some, IfOk, IfErr, OnOk, OnErr, length, true, None, unwrap_or, ◌+◌};
     ghost use Rattle.std.specs.Borrow.{sem};
     ghost use Rattle.control.specs.Configs.{fault, are_users};
     ghost use Rattle.credentials.specs.Texts.{is_nonce};
@@ -98,6 +98,7 @@ impl Relay {
     ghost use Rattle.relay.specs.Unconfined.{asking};
     ghost use Rattle.relay.specs.Users.{after_users};
     ghost use Rattle.relay.specs.Harmless.{IsHarmless};
+    ghost use Rattle.relay.specs.KeysCompared.{keys_of_step};
     ghost use Rattle.relay.specs.Steps.{disposition_of_step, outcome_of, ruled_outcome_of, after_step, lends_relay_room, HasStepped};
     ghost use Rattle.rules.specs.Systems.{first};
     ghost use Rattle.relay.specs.declared.error.RelayError.TheVariants.{BadConfig};
@@ -229,6 +230,15 @@ impl Relay {
         Ok(())
     }
 
+    /// Sets how many seconds the system's clock, since 1970, is ahead of the moments: 0 where it is never set. Time-limited
+    /// credentials expire by that clock. Nothing else changes.
+    /// See docs/DECISIONS.md, "Names expire by the system's clock".
+    pub fn set_clock(&mut self, ahead: i64)
+        ensures { self.new ≡ record self.old { config = record self.old.config { clock_ahead = ahead } } }
+    {
+        self.config.clock_ahead = ahead;
+    }
+
     /// Replaces the users. The allocations of a user go on where one of the new users has the same name and the same password,
     /// at whatever index, and end otherwise, with their permissions and channels. Those of names with time-limited credentials,
     /// which no list has, go on. Nothing else changes.
@@ -313,12 +323,14 @@ impl Relay {
         ensures room { HasRoomFor result self.new.reply }
     {
         self.law_shipped_are_unconfined(meta, n);
-        self.advance(meta, n, !self.are_shipped)
+        self.advance(meta, n, !self.are_shipped, &mut Uncounted)
     }
 
-    /// As [`decide`](Relay::decide), and `asks` says whether what confines the programs is asked.
+    /// As [`decide`](Relay::decide), and `asks` says whether what confines the programs is asked. `keys` counts the keys that are
+    /// compared to find the slot, to relay by the rules, and to ask what is permitted. The helpers that the program calls compare
+    /// at most 7 each ([`Lookup::look_up`]), and a request's look-ups at most 9 each.
     #[inline(always)]
-    fn advance(&mut self, meta: &Meta, n: usize, asks: bool) -> Found
+    fn advance<C: Count>(&mut self, meta: &Meta, n: usize, asks: bool, keys: &mut C) -> Found
         requires { n ≤ MAX_DATAGRAM }
         ensures stepped { HasStepped self.old self.new (outcome_of (asking asks self.old) meta.entry.now n) }
         ensures found { sending_of_found self.new meta.entry.now.from result
@@ -326,19 +338,20 @@ impl Relay {
         ensures disposition { disposition_of_found self.new meta.entry.now.from result
             ≡ disposition_of_step (asking asks self.old) meta.entry.now n }
         ensures room { HasRoomFor result self.new.reply }
+        ensures keys { C.count keys.new ≤ C.count keys.old + keys_of_step self.old.programs.confinement }
     {
         self.greatest = moment_of(self.greatest, meta.now);
         if !is_served(&meta.from, &self.tables) {
             return Found::Nothing(Discard::NotServed);
         }
         self.tables.law_are_well_formed();
-        let helpers = Lookup::new(live_for(&self.tables, self.greatest, &meta.from));
+        let helpers = Lookup::new(live_for(&self.tables, self.greatest, &meta.from, keys));
         let program = program_for(&self.client, &self.peer, &meta.from);
         let context = context_for(&meta.tx, &meta.from);
         let outcome = run_over(program, &mut self.frame, &helpers, &context, n);
         match outcome.verdict {
             PASSES => match meta.from {
-                Source::Client(client) => Found::Answer(self.pass_on(client)),
+                Source::Client(client) => Found::Answer(self.pass_on(client, keys)),
                 Source::Peer { .. } => Found::Nothing(Discard::ByProgram),
             },
             SENDS => window_found(
@@ -347,6 +360,7 @@ impl Relay {
                 outcome.destination,
                 &self.confinement,
                 asks,
+                keys,
             ),
             _ => Found::Nothing(Discard::ByProgram),
         }
@@ -362,7 +376,7 @@ impl Relay {
         let moment = moment_of(self.greatest, meta.now);
         let ruled = discard_by_rules(&self.tables, moment, meta, &self.frame.room()[..n]);
         self.tables.law_are_well_formed();
-        let helpers = Lookup::new(live_for(&self.tables, moment, &meta.from));
+        let helpers = Lookup::new(live_for(&self.tables, moment, &meta.from, &mut Uncounted));
         let program = program_for(&self.client, &self.peer, &meta.from);
         let context = context_for(&meta.tx, &meta.from);
         let slot = last_slot_over(program, &mut self.frame, &helpers, &context, n);
@@ -372,7 +386,7 @@ impl Relay {
     /// Answers by the rules what a client's program passed on, as it is in the frame.
     // A request takes tens of kilobytes of stack, which a datagram that is relayed would else pay for at its entry.
     #[inline(never)]
-    fn pass_on(&mut self, client: Addr) -> Answer
+    fn pass_on<C: Count>(&mut self, client: Addr, keys: &mut C) -> Answer
         requires { is_ipv4 client ≡ true }
         ensures answer { sending_of_answer client (datagram_of self.new.frame) self.new.reply result
             ≡ (reply_of_passing self.old client).answer }
@@ -380,9 +394,18 @@ impl Relay {
         ensures room { LiesInRoom result self.new.reply }
         ensures rest { self.new
             ≡ record self.old { rows = (reply_of_passing self.old client).rows; reply = self.new.reply } }
+        ensures keys { C.count keys.new ≤ C.count keys.old + 16 }
     {
         let datagram = self.frame.datagram();
         let (tables, out) = (&mut self.tables, &mut self.reply);
-        answer_client(tables, &self.config, self.greatest, client, datagram, out)
+        answer_client(
+            tables,
+            &self.config,
+            self.greatest,
+            client,
+            datagram,
+            out,
+            keys,
+        )
     }
 }

@@ -1,6 +1,6 @@
 //! The run of a side's program over the datagram of a step.
 
-ghost use Rattle.std.specs.Prelude.{◌≡◌, ◌≤◌, Option, length, take};
+ghost use Rattle.std.specs.Prelude.{◌≡◌, ◌≤◌, ◌+◌, Option, length, take};
 ghost use Rattle.semantics.specs.declared.limits.TheConstants.{MAX_DATAGRAM};
 ghost use Rattle.rules.specs.declared.confinement.Confinement.{Confinement};
 ghost use Rattle.machine.specs.Contents.{room_of};
@@ -17,7 +17,7 @@ use events::{Meta, Source};
 use helpers::Lookup;
 use loader::Loaded;
 use machine::{Context, Frame, Outcome, Side, run, trace};
-use tables::{LiveSlot, Tables};
+use tables::{Count, LiveSlot, Tables};
 use verifier::Verified;
 
 /// Returns the context of a datagram.
@@ -39,13 +39,19 @@ pub(crate) fn context_for(tx: &[u8; 12], from: &Source) -> Context
 }
 
 /// Returns what the slot holds in which helpers look up, if its allocation is live at a moment: the slot of a client's
-/// allocation, or the one that a peer's datagram came to.
+/// allocation, or the one that a peer's datagram came to. `keys` counts the keys that are compared: at most 9, those of clients.
 #[inline(always)]
-pub(crate) fn live_for<'a>(tables: &'a Tables, moment: u64, from: &Source) -> Option<LiveSlot<'a>>
-    ensures { result ≡ held_for from.now (rows_at moment tables.now) }
+pub(crate) fn live_for<'a, C: Count>(
+    tables: &'a Tables,
+    moment: u64,
+    from: &Source,
+    keys: &mut C,
+) -> Option<LiveSlot<'a>>
+    ensures live { result ≡ held_for from.now (rows_at moment tables.now) }
+    ensures keys { C.count keys.new ≤ C.count keys.old + 9 }
 {
     match *from {
-        Source::Client(client) => tables.live_of(client, moment),
+        Source::Client(client) => tables.live_of(client, moment, keys),
         Source::Peer { slot, .. } => tables.live_at(slot, moment),
     }
 }

@@ -1,18 +1,7 @@
-//! The tests of the relay with the shipped programs, and of the events that it reads.
+//! Tests that no row can say: a server over UDP sockets, and replies whose contracts are proved with the tests.
 #![tactic(auto)]
 
 #[cfg(test)]
-mod dispositions;
-#[cfg(test)]
-mod links;
-#[cfg(test)]
-mod reasons;
-#[cfg(test)]
-mod rounds;
+mod replies;
 #[cfg(test)]
 mod sockets;
-#[cfg(test)]
-mod story;
-#[cfg(test)]
-mod texts;
-pub mod wire;

@@ -1,10 +1,10 @@
 //! A server over UDP sockets of loopback, in one process with a client and a peer: a binding, and data there and back.
 
-use crate::story::shipped;
 use attributes::{Addr, write_xor_addr};
 use credentials::{Key, sign};
 use relay::Relay;
 use server::{Link, LinkFault, Place, serve_once};
+use setup::sample;
 use std::alloc::Global;
 use std::io;
 use std::net::{Ipv4Addr, Net, SocketAddr, UdpSocket};
@@ -152,7 +152,7 @@ fn bind_all<R: Net>(rt: &R) -> io::Result<(Sockets, Ends)> {
 
 /// Makes a server with the shipped programs, a client and a peer.
 fn start<R: Net>(rt: &R, alloc: Global) -> Result<Session, Fail> {
-    let relay = shipped(alloc)?;
+    let relay = sample::shipped(alloc, sample::config(alloc, [203, 0, 113, 1], 2)?)?;
     let (sockets, ends) = bind_all(rt)?;
     Ok(Session {
         relay,

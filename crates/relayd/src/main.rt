@@ -1,17 +1,21 @@
 //! The program: parses the command line, and reports on a program file, explains it, puts it in order, assembles a text, replays
-//! events or serves sockets.
+//! events, serves sockets or checks a server.
 #![tactic(auto)]
 
+mod check_command;
 mod clock;
 mod confinements;
 mod explanations;
 mod filters;
 mod options;
+mod options_file;
 mod replay_command;
 mod serve_command;
 mod starting;
 
+use crate::check_command::{check, end};
 use crate::explanations::explain;
+use crate::options_file::further_words;
 use crate::replay_command::{ReplayOptions, replay};
 use crate::serve_command::serve;
 use asm::{AsmError, assemble};
@@ -21,7 +25,7 @@ use clap::error::ErrorKind as LineErrorKind;
 use command_line::{Subcommand, ValueError, line, subcommand_of};
 use ordering::{FileError, order_file};
 use report::{Ask, ReportError, fail, report};
-use std::alloc::AllocError;
+use std::alloc::{AllocError, Global};
 use std::fs::File;
 use std::io::{self, BufWriter, Read, Write};
 use std::net::Net;
@@ -232,10 +236,27 @@ fn run_subcommand<
             replay(rt, err, replayed, &options)
         }
         Subcommand::Serve { server, options } => serve(rt, err, &server, &options),
+        Subcommand::Check { server, user } => check(rt, err, server, user),
     }
 }
 
-/// Runs the command line of the process and returns the exit status.
+/// Returns the words of two lists, one after the other.
+fn joined<'a>(
+    alloc: Global,
+    words: &'a [String],
+    further: &'a [String],
+) -> Result<Vec<&'a str>, AllocError> {
+    let mut all = Vec::new(alloc);
+    for word in words {
+        all.push(word.as_str())?;
+    }
+    for word in further {
+        all.push(word.as_str())?;
+    }
+    Ok(all)
+}
+
+/// Runs the command line of the process, with the options of a server that are in a file, and returns the exit status.
 fn run<
     R: Env + Files<File = File> + Input + Print + Eprint + Net + Clock + RandomSource + AllocGlobal,
     E: Write,
@@ -247,7 +268,14 @@ fn run<
     let Ok(words) = words else {
         return fail(err, ReportError::Memory);
     };
-    match line(rt.alloc(), words.as_slice()) {
+    let further = match further_words(rt, &words) {
+        Ok(further) => further,
+        Err(error) => return end(err, error),
+    };
+    let Ok(all) = joined(rt.alloc(), &words, &further) else {
+        return fail(err, ReportError::Memory);
+    };
+    match line(rt.alloc(), all.as_slice()) {
         Err(error) => report_line(rt, err, &error),
         Ok(matches) => run_subcommand(rt, err, &matches),
     }

@@ -1,15 +1,15 @@
 //! Options that set up a relay, and why a command that takes them ends early.
 
 use crate::confinements::confinement_of;
-use command_line::{Options, RelayedError, ValueError};
+use command_line::{OptionFault, Options, RelayedError, ValueError};
 use credentials::User;
 use monitoring::RecordError;
 use peer_filter::{FilterError, NetworkError};
 use programs::{CLIENT, PEER};
 use relay::Relay;
 use setup::{
-    ProgramError, RefusedProgram, Setup, SetupError, UsersError, add_users, add_users_of_lines,
-    relay_of, secret,
+    LineFault, ProgramError, RefusedProgram, Setup, SetupError, UsersError, add_users,
+    add_users_of_lines, relay_of, secret,
 };
 use sockets::BindErrorKind;
 use std::net::SocketAddr;
@@ -51,12 +51,15 @@ pub(crate) enum CommandError<'a> {
     /// Neither a user nor a secret is given.
     #[error("error: '--user <NAME:PASSWORD>', '--users <FILE>' or '--secret <FILE>' is required")]
     NoUsers,
-    /// The line of this number in the file of users, from 1 on, has no colon.
-    #[error("refused users at line {0}")]
-    Users(u64),
+    /// The line of this number in the file of users, from 1 on, is no user's.
+    #[error("refused users at line {0}: {1}")]
+    Users(u64, LineFault),
     /// The file of the secret has a second line.
     #[error("refused secret at line 2")]
     Secret,
+    /// The line of this number in the file of options, from 1 on, is no option's.
+    #[error("refused options at line {0}: {1}")]
+    OptionLine(u64, OptionFault),
     /// A file can't be read.
     #[error("cannot read {0}")]
     File(&'a str),
@@ -66,6 +69,9 @@ pub(crate) enum CommandError<'a> {
     /// The relay can't be set up.
     #[error("{0}")]
     Setup(SetupError),
+    /// A server isn't found: it has no address, or no port.
+    #[error("cannot find {0}")]
+    Server(&'a str),
     /// A socket can't be bound to this address.
     #[error("cannot bind {0}\n{1}")]
     Bind(SocketAddr, BindErrorKind),
@@ -96,7 +102,8 @@ impl CommandError<'_> {
     /// Returns the exit status.
     pub(crate) fn status(&self) -> u8 {
         match self {
-            CommandError::Users(_)
+            CommandError::Users(..)
+            | CommandError::OptionLine(..)
             | CommandError::Secret
             | CommandError::Program(_)
             | CommandError::Setup(_)
@@ -106,7 +113,7 @@ impl CommandError<'_> {
             CommandError::Aliases | CommandError::Unconfined => 2,
             CommandError::NoUsers | CommandError::Relayed(_) => 2,
             CommandError::File(_) | CommandError::Unwritable(_) | CommandError::Output => 3,
-            CommandError::Bind(..) | CommandError::Record(..) => 3,
+            CommandError::Bind(..) | CommandError::Record(..) | CommandError::Server(_) => 3,
             CommandError::Wait | CommandError::Random => 3,
             CommandError::Memory => 4,
         }
@@ -127,7 +134,7 @@ pub(crate) fn unread<'a>(error: &io::Error, path: &'a str) -> CommandError<'a> {
 fn users_fault<'a>(error: UsersError, texts: &[&'a str]) -> CommandError<'a> {
     let option = "--user <NAME:PASSWORD>";
     match (error, texts.iter().find(|text| !text.contains(':'))) {
-        (UsersError::Line(_), Some(text)) => CommandError::Value(ValueError { option, text }),
+        (UsersError::Line(..), Some(text)) => CommandError::Value(ValueError { option, text }),
         _ => CommandError::Memory,
     }
 }
@@ -155,7 +162,7 @@ fn users_of<'a, R: Files + AllocGlobal>(
     };
     match add_users_of_lines(rt.alloc(), &mut users, &text) {
         Ok(()) => Ok((users, Some(text))),
-        Err(UsersError::Line(number)) => Err(CommandError::Users(number)),
+        Err(UsersError::Line(number, fault)) => Err(CommandError::Users(number, fault)),
         Err(UsersError::Memory) => Err(CommandError::Memory),
     }
 }

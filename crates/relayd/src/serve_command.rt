@@ -1,12 +1,12 @@
 //! The command `serve`: relays the datagrams of UDP sockets.
 
 use crate::clock::{elapsed, moment};
-use crate::filters::rules_of;
+use crate::filters::peer_options;
 use crate::options::{CommandError, Relayed};
 use crate::starting::start;
 use arrayvec::ArrayVec;
 use command_line::{Options, ServerOptions};
-use control::Response;
+use control::{Grant, Response};
 use mio::{Events, Poll, Token};
 use monitoring::{EndReason, ErrorLines, Observed, RecordEnd, Recording, Reports, Sender};
 use peer_filter::PeerFilter;
@@ -15,8 +15,8 @@ use rand_core::Rng;
 use relay::{Disposition, Relay, Source};
 use replacing::{Sides, UserList};
 use server::{
-    Arrival, Counters, LinkFault, Moments, Outcome, Place, Ports, Schedule, TURNS, Timer,
-    draw_nonce, serve_round, turn,
+    Arrival, ClockOffset, Counters, LinkFault, Moments, Outcome, Place, Ports, Schedule, TURNS,
+    Timer, draw_nonce, serve_round, turn,
 };
 use sockets::Sockets;
 use std::fs::File;
@@ -62,7 +62,9 @@ pub(crate) struct Server<'a> {
     pub(crate) users: UserList<'a>,
     pub(crate) moments: Moments,
     pub(crate) nonces: Timer,
-    /// When the files of programs and of users are read again.
+    /// How far the system's clock is ahead, where names expire by it.
+    pub(crate) clock: Option<ClockOffset>,
+    /// When the system's clock is looked at, and the files of programs and of users are read again.
     pub(crate) files: Timer,
     pub(crate) reports: Reports<'a>,
     /// Whether several datagrams had come at the endpoint that was served last.
@@ -168,6 +170,34 @@ impl<'a> Server<'a> {
         }
     }
 
+    /// Closes the sockets of clients whose allocations have ended.
+    fn close_own_sockets<R: Clock>(&mut self, rt: &R) {
+        let now = moment(rt, &self.moments);
+        let tables = self.relay.tables();
+        self.wire.sockets.close_others(tables, now);
+    }
+
+    /// Lets names expire by the system's clock where that was set, and says by how much.
+    fn look_at_clock<R: Clock, E: Write>(&mut self, rt: &R, err: &mut E) {
+        let Some(clock) = &mut self.clock else {
+            return;
+        };
+        let Ok(system) = rt.since_1970() else {
+            return;
+        };
+        let (old, ahead) = (clock.ahead, self.moments.ahead(system, elapsed(rt)));
+        if clock.update(ahead) {
+            self.relay.set_clock(ahead);
+            let direction = if ahead < old { "back" } else { "forward" };
+            let _ = writeln!(
+                err,
+                "clock set {direction} by {} seconds",
+                ahead.abs_diff(old)
+            );
+            self.wire.recording.end(err, RecordEnd::Clock);
+        }
+    }
+
     /// Looks for other programs and users.
     fn look_at_files<R: Files + Clock + AllocGlobal, E: Write>(&mut self, rt: &R, err: &mut E) {
         self.sides.look(rt, err);
@@ -178,11 +208,15 @@ impl<'a> Server<'a> {
         }
     }
 
-    /// Logs what the response to a client's request says.
-    fn log_response(&mut self, from: &Source, response: Response, now: u64) {
-        if let Some(log) = self.reports.log()
-            && let Source::Client(client) = *from
-        {
+    /// Notes what the response to a client's request says: who has an allocation gets a socket of its own, and it is logged.
+    fn note_response(&mut self, from: &Source, response: Response, now: u64) {
+        let Source::Client(client) = *from else {
+            return;
+        };
+        if let Response::Granted(Grant::Allocated { slot, .. }) = response {
+            self.wire.sockets.want_own(slot, client);
+        }
+        if let Some(log) = self.reports.log() {
             let sender = Sender::of(client, self.relay.area());
             log.answered(response, sender, self.relay.tables(), now);
         }
@@ -194,8 +228,8 @@ impl<'a> Server<'a> {
         self.reports.flush(err);
     }
 
-    /// Does what is due: draws a nonce, prints the log, looks for other programs and users, goes on verifying programs, and
-    /// reports.
+    /// Does what is due: draws a nonce, prints the log, looks at the system's clock and for other programs and users, goes on
+    /// verifying programs, and reports.
     /// See docs/DECISIONS.md, "What is looked at once a second".
     fn tend<R: Files + Clock + AllocGlobal, E: Write>(&mut self, rt: &R, err: &mut E) {
         let now = elapsed(rt);
@@ -209,6 +243,8 @@ impl<'a> Server<'a> {
         };
         self.reports.tend_log(err, of, now);
         if self.files.is_due(now) {
+            self.close_own_sockets(rt);
+            self.look_at_clock(rt, err);
             self.look_at_files(rt, err);
         }
         self.verify(rt, err, now);
@@ -253,7 +289,7 @@ impl<'a> Server<'a> {
             Ok(None) => return false,
             Ok(Some(served)) => {
                 if let Outcome::Done(Disposition::Answered(response)) = served.outcome {
-                    self.log_response(&served.from, response, now);
+                    self.note_response(&served.from, response, now);
                 }
             }
             Err(LinkFault) => {}
@@ -326,7 +362,7 @@ impl<'a> Server<'a> {
 
     /// Serves until the process is stopped, and waits while no socket is ready.
     /// See docs/DECISIONS.md, "A server waits by readiness".
-    fn run<R: Files + Clock + AllocGlobal, E: Write>(
+    fn run<R: Files + Net + Clock + AllocGlobal, E: Write>(
         &mut self,
         rt: &R,
         err: &mut E,
@@ -347,6 +383,7 @@ impl<'a> Server<'a> {
                 rt,
             };
             serve_round(&mut endpoints, &waiting.reports, &mut waiting.schedule);
+            self.wire.sockets.connect_wanted(rt, &waiting.poll);
         }
         Ok(())
     }
@@ -449,8 +486,8 @@ fn serve_sockets<
     server_options: &ServerOptions<'a>,
     options: &Options<'a>,
 ) -> Result<(), CommandError<'a>> {
-    let rules = rules_of(rt.alloc(), server_options)?;
-    let mut server = start(rt, server_options, &rules, options)?;
+    let peers = peer_options(rt.alloc(), server_options, options)?;
+    let mut server = start(rt, server_options, &peers, options)?;
     serve_lines(rt, err, &mut server, server_options, options)
 }
 

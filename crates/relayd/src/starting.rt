@@ -1,17 +1,17 @@
 //! How a server starts: its relay, its sockets, and what it reports.
 
 use crate::clock::{elapsed, starting_now};
-use crate::filters::filter_of;
+use crate::filters::{PeerOptions, filter_of};
 use crate::options::{CommandError, Prepared, Relayed, set_up};
 use crate::serve_command::{Server, Wire};
 use command_line::{Options, ServerOptions, defaults, relayed_ip, relayed_ip6};
 use monitoring::{MetricsFile, RecordError, Recording, Reports, ServerLog};
-use peer_filter::{PeerFilter, Rule};
+use peer_filter::PeerFilter;
 use rand::make_rng;
 use rand::rngs::StdRng;
 use rand_core::Rng;
 use replacing::{ProgramFile, Sides, UserList};
-use server::{Counters, Timer};
+use server::{ClockOffset, Counters, Timer};
 use sockets::{Addresses, BindError, EndpointSockets, SocketOptions, Sockets};
 use std::alloc::Global;
 use std::fs::File;
@@ -20,7 +20,7 @@ use std::random::RandomSource;
 use std::rt::{Clock, Files};
 use std::time::Duration;
 
-/// The seconds after which the files of programs and of users are read again.
+/// The seconds after which the system's clock is looked at, and the files of programs and of users are read again.
 const FILES_PERIOD: u64 = 1;
 
 /// Returns whether peers can send to a relayed IPv4 address: it is one, and not of a group or of all.
@@ -65,7 +65,7 @@ fn relayed_of<'a>(
 }
 
 /// Returns the addresses of the sockets.
-fn addresses_of(server: &ServerOptions<'_>, options: &Options<'_>) -> Addresses {
+fn addresses_of(server: &ServerOptions<'_>, options: &Options<'_>, relayed: Relayed) -> Addresses {
     Addresses {
         listen: server.listen,
         listen6: server.listen6,
@@ -76,22 +76,23 @@ fn addresses_of(server: &ServerOptions<'_>, options: &Options<'_>) -> Addresses 
             buffer: server.buffer,
             reuse_port: server.reuse_port,
         },
+        relayed: Ipv4Addr::from(relayed.ip),
+        relayed6: relayed.ip6.map(Ipv6Addr::from),
     }
 }
 
-/// Binds the sockets of a server, which relays from an IPv4 address, and returns them with the peers that nothing is sent to.
+/// Binds the sockets of a server, and returns them with the peers that nothing is sent to.
 fn bind_sockets<R: Net + AllocGlobal>(
     rt: &R,
     addresses: Addresses,
-    relayed: [u8; 4],
-    rules: &[Rule],
+    peers: &PeerOptions,
 ) -> Result<(Sockets, PeerFilter), CommandError<'static>> {
     let endpoints = match EndpointSockets::bind(rt, addresses) {
         Ok(endpoints) => endpoints,
         Err(BindError::Address(address, reason)) => return Err(CommandError::Bind(address, reason)),
         Err(BindError::Memory) => return Err(CommandError::Memory),
     };
-    let filter = filter_of(&addresses, endpoints.client_port(), relayed, rules)?;
+    let filter = filter_of(&addresses, endpoints.client_port(), peers)?;
     match Sockets::new(rt.alloc(), endpoints) {
         Ok(sockets) => Ok((sockets, filter)),
         Err(_) => Err(CommandError::Memory),
@@ -116,11 +117,11 @@ fn wire_of<'a, R: Files<File = File> + Net + RandomSource + AllocGlobal>(
     rt: &R,
     server_options: &ServerOptions<'a>,
     options: &Options<'_>,
-    relayed: [u8; 4],
-    rules: &[Rule],
+    relayed: Relayed,
+    peers: &PeerOptions,
 ) -> Result<Wire<'a>, CommandError<'a>> {
-    let addresses = addresses_of(server_options, options);
-    let (sockets, filter) = bind_sockets(rt, addresses, relayed, rules)?;
+    let addresses = addresses_of(server_options, options, relayed);
+    let (sockets, filter) = bind_sockets(rt, addresses, peers)?;
     let mut rng: StdRng = make_rng(rt).map_err(|_| CommandError::Random)?;
     let mut tx = [0; 12];
     rng.fill_bytes(&mut tx);
@@ -194,13 +195,13 @@ struct Parts<'a> {
 fn parts_of<'a, R: Files<File = File> + Net + RandomSource + AllocGlobal>(
     rt: &R,
     server_options: &ServerOptions<'a>,
-    rules: &[Rule],
+    peers: &PeerOptions,
     options: &Options<'a>,
     relayed: Relayed,
     now: Duration,
 ) -> Result<Parts<'a>, CommandError<'a>> {
     check_reachable(relayed.ip, relayed.ip6)?;
-    let wire = wire_of(rt, server_options, options, relayed.ip, rules)?;
+    let wire = wire_of(rt, server_options, options, relayed, peers)?;
     let reports = reports_of(rt, server_options, options, now)?;
     Ok(Parts { wire, reports })
 }
@@ -231,6 +232,7 @@ fn server_of<'a, R: Clock>(
         users: UserList::new(options.users.unwrap_or(&[]), options.users_file, set.users),
         moments: starting_now(rt),
         nonces: Timer::new(now, Duration::from_secs(server_options.nonce_lifetime)),
+        clock: options.secret_file.is_some().then(ClockOffset::new),
         files: Timer::new(now, Duration::from_secs(FILES_PERIOD)),
         reports: parts.reports,
         is_busy: false,
@@ -241,7 +243,7 @@ fn server_of<'a, R: Clock>(
 pub(crate) fn start<'a, R: Files<File = File> + Net + Clock + RandomSource + AllocGlobal>(
     rt: &R,
     server_options: &ServerOptions<'a>,
-    rules: &[Rule],
+    peers: &PeerOptions,
     options: &Options<'a>,
 ) -> Result<Server<'a>, CommandError<'a>> {
     let relayed = relayed_of(server_options, options)?;
@@ -253,6 +255,6 @@ pub(crate) fn start<'a, R: Files<File = File> + Net + Clock + RandomSource + All
         !server_options.unconfined,
     )?;
     let now = elapsed(rt);
-    let parts = parts_of(rt, server_options, rules, options, relayed, now)?;
+    let parts = parts_of(rt, server_options, peers, options, relayed, now)?;
     Ok(server_of(rt, server_options, options, relayed, set, parts, now))
 }

@@ -4,7 +4,7 @@ use crate::files::{UnusableFile, read_regular};
 use crate::watched::Watched;
 use credentials::User;
 use relay::Relay;
-use setup::{UsersError, add_users, add_users_of_lines};
+use setup::{LineFault, UsersError, add_users, add_users_of_lines};
 use std::alloc::Global;
 use std::io::Write;
 use std::rt::Files;
@@ -20,11 +20,11 @@ enum ListError {
     /// It is no text.
     #[error("not UTF-8")]
     Text,
-    /// The line of this number, from 1 on, has no colon.
-    #[error("line {0} has no colon")]
-    Line(u64),
-    /// The users, with those of `--user`, can't be those of a relay.
-    #[error("refused users")]
+    /// The line of this number, from 1 on, is no user's.
+    #[error("line {0}: {1}")]
+    Line(u64, LineFault),
+    /// There is no user, with those of `--user`.
+    #[error("no users")]
     Users,
     /// Memory ran out.
     #[error("out of memory")]
@@ -66,7 +66,7 @@ fn read<R: Files + AllocGlobal>(rt: &R, path: &str) -> Result<Vec<u8>, ReadError
 impl From<UsersError> for ListError {
     fn from(error: UsersError) -> ListError {
         match error {
-            UsersError::Line(number) => ListError::Line(number),
+            UsersError::Line(number, fault) => ListError::Line(number, fault),
             UsersError::Memory => ListError::Memory,
         }
     }
@@ -116,8 +116,8 @@ impl<'a> UserList<'a> {
     }
 
     /// Reads the file again. Where its bytes are others than those whose users are set and those that were last refused, its
-    /// users, after those of `--user`, replace the relay's, or are refused as a whole. Either is reported, and so is a file
-    /// that isn't read, once until it is. Where memory ran out the file is tried again. Returns whether they are replaced.
+    /// users, after those of `--user`, replace the relay's, or are refused as a whole. Either is reported, and so are those in use
+    /// where they are put back after a refusal, and a file that isn't read, once until it is. Where memory ran out the file is tried again. Returns whether they are replaced.
     /// See docs/DECISIONS.md, "Users that are replaced".
     pub fn look<R: Files + AllocGlobal, E: Write>(
         &mut self,
@@ -130,6 +130,9 @@ impl<'a> UserList<'a> {
         };
         match read(rt, path) {
             Ok(bytes) => {
+                if self.watched.is_put_back(&bytes) {
+                    let _ = writeln!(err, "users as before in {path}");
+                }
                 self.read_error = None;
                 self.take(rt.alloc(), err, relay, path, bytes)
             }

@@ -1,7 +1,7 @@
 //! What is known of a file that is read again from time to time.
 
 ghost use Rattle.std.specs.Prelude.{◌≡◌, None, Some};
-ghost use Rattle.replacing.specs.Watched.{Known, contents_of, is_kept, is_other, looked};
+ghost use Rattle.replacing.specs.Watched.{Known, contents_of, is_kept, is_other, is_put_back, looked};
 
 use std::marker::Model;
 
@@ -53,6 +53,13 @@ impl Watched {
             return false;
         }
         !is_kept(&self.refused, bytes)
+    }
+
+    /// Returns whether the bytes that the file has now are those in use, after others were refused.
+    pub(crate) fn is_put_back(&self, bytes: &[u8]) -> bool
+        ensures { result ≡ is_put_back self.now bytes.now }
+    {
+        self.refused.is_some() && is_kept(&self.in_use, bytes)
     }
 
     /// Notes that bytes are in use from now on.

@@ -1,6 +1,6 @@
 //! The datagrams of clients.
 
-ghost use Rattle.std.specs.Prelude.{◌≡◌, ◌≤◌, None, length, true};
+ghost use Rattle.std.specs.Prelude.{◌≡◌, ◌≤◌, ◌+◌, None, length, true};
 ghost use Rattle.control.specs.Configs.{fault};
 ghost use Rattle.tables.specs.Addresses.{is_ipv4};
 ghost use Rattle.rules.specs.Answers.{sending_of_answer, LiesInRoom};
@@ -15,7 +15,7 @@ use control::{Config, REPLY_BYTES, respond};
 use credentials::law_results_are_checked;
 use stun::read;
 use stun::registry::{Class, MessageType, Method};
-use tables::Tables;
+use tables::{Count, Tables};
 
 /// The type of a Send indication.
 pub(crate) const SEND: MessageType = MessageType {
@@ -27,13 +27,17 @@ pub(crate) const SEND: MessageType = MessageType {
 /// answered or relayed as one, and everything else is relayed if it is ChannelData. A request may change the tables, and its
 /// reply is written over the first bytes of `out`, which has at least [`REPLY_BYTES`](control::REPLY_BYTES) bytes. The
 /// configuration has no fault, and the tables have its slots.
-pub fn answer_client(
+///
+/// `keys` counts the keys that are compared to relay: at most 9 for the client, and 7 for the channel or the permission. Those of a
+/// request are the affair of [`respond`], each of whose look-ups compares at most 9.
+pub fn answer_client<C: Count>(
     tables: &mut Tables,
     config: &Config,
     moment: u64,
     client: Addr,
     datagram: &[u8],
     out: &mut [u8],
+    keys: &mut C,
 ) -> Answer
     requires room { REPLY_BYTES ≤ length out.old }
     requires config { fault config.now ≡ None }
@@ -45,15 +49,16 @@ pub fn answer_client(
     ensures rows { tables.new ≡ (from_client config.now moment client tables.old datagram.now).rows }
     ensures room { LiesInRoom result out.new }
     ensures slots { length tables.new.slots ≡ length tables.old.slots }
+    ensures keys { C.count keys.new ≤ C.count keys.old + 16 }
 {
     if !begins_as_stun(datagram) {
-        return channel_data(tables, moment, client, datagram);
+        return channel_data(tables, moment, client, datagram, keys);
     }
     let Ok(message) = read(datagram) else {
         return Answer::Nothing(Discard::Malformed);
     };
     if message.kind() == SEND.kind() {
-        return send(tables, moment, client, &message);
+        return send(tables, moment, client, &message, keys);
     }
     law_results_are_checked();
     reply_of(respond(tables, config, moment, client, &message, out))

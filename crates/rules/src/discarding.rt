@@ -18,7 +18,7 @@ use control::Request;
 use events::{Meta, Source};
 use semantics::MAX_DATAGRAM;
 use stun::{Message, read};
-use tables::Tables;
+use tables::{Tables, Uncounted};
 
 /// Returns why nothing is sent, if nothing is.
 fn discard_in(disposition: Disposition) -> Option<Discard>
@@ -43,13 +43,19 @@ fn discard_of_client(tables: &Tables, moment: u64, client: Addr, datagram: &[u8]
         ≡ discard_in (client_disposition config moment client tables.now datagram.now) }
 {
     if !begins_as_stun(datagram) {
-        return discard_in(channel_data(tables, moment, client, datagram).disposition());
+        return discard_in(channel_data(
+            tables,
+            moment,
+            client,
+            datagram,
+            &mut Uncounted,
+        ).disposition());
     }
     let Ok(message) = read(datagram) else {
         return Some(Discard::Malformed);
     };
     if message.kind() == SEND.kind() {
-        return discard_in(send(tables, moment, client, &message).disposition());
+        return discard_in(send(tables, moment, client, &message, &mut Uncounted).disposition());
     }
     match request_of(&message) {
         Some(_) => None,
@@ -102,10 +108,10 @@ fn discard_of_peer(
     let Some(live) = tables.live_at(slot, moment) else {
         return Some(Discard::NoAllocation);
     };
-    if !live.permitted(peer) {
+    if !live.permitted(peer, &mut Uncounted) {
         return Some(Discard::NoPermission);
     }
-    let number = live.channel_of(peer);
+    let number = live.channel_of(peer, &mut Uncounted);
     if length_to_client(number, &peer, datagram.len()) > MAX_DATAGRAM {
         return Some(Discard::TooLong);
     }

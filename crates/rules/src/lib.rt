@@ -16,7 +16,7 @@ mod requests;
 pub use amplification::law_answers_are_bounded;
 pub use answer::Answer;
 pub use client::answer_client;
-pub use confinement::{Alias, Confinement};
+pub use confinement::{Alias, Confinement, at_port};
 pub use discarding::discard_by_rules;
 pub use disposition::{Discard, Disposition};
 pub use isolation::law_users_are_apart;

@@ -22,7 +22,7 @@ mod value;
 pub use access::{HEADROOM_FIRST, Location, index_in_stack, is_within};
 pub use answers::{Helpers, NoAllocation};
 pub use effect::{Comparison, Effect, Registers, effect_of, is_group_place, moved_place, writable};
-pub use fetching::{Branch, Fetched, Position, Visit, fetch, last, slot_by, target};
+pub use fetching::{Branch, Fetched, Position, Visit, fetch, last, slot_by, target, target_in};
 pub use helper::{
     Argument, Helper, Inputs, Question, RECORD_BYTES, RecordForm, Room, Signature,
     WIDE_RECORD_BYTES, destination_at, is_valid, widened, window_within,

@@ -41,6 +41,7 @@ of_response P each (response.Unauthenticated auth.Missing) = each.challenged
 of_response P each (response.Unauthenticated auth.StaleNonce) = each.challenged
 of_response P each (response.Unauthenticated auth.UnknownUser) = each.unauthenticated
 of_response P each (response.Unauthenticated auth.WrongIntegrity) = each.unauthenticated
+of_response P each (response.Unauthenticated auth.Expired) = each.unauthenticated
 of_response P each (response.Unauthenticated auth.Incomplete) = each.refused
 of_response P each (response.Refused error) = each.refused
 

@@ -2,6 +2,7 @@ pub mod CountedOnce
 pub mod CounterValues
 pub mod Digits
 pub mod EndpointEntries
+pub mod Hairpins
 pub mod Handled
 pub mod Reported
 pub mod Rounds

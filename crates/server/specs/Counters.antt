@@ -48,6 +48,7 @@ response_counter (response.Unauthenticated auth.Missing) = counter.Challenged
 response_counter (response.Unauthenticated auth.StaleNonce) = counter.Challenged
 response_counter (response.Unauthenticated auth.UnknownUser) = counter.Unauthenticated
 response_counter (response.Unauthenticated auth.WrongIntegrity) = counter.Unauthenticated
+response_counter (response.Unauthenticated auth.Expired) = counter.Unauthenticated
 response_counter (response.Unauthenticated auth.Incomplete) = counter.Refused
 response_counter (response.Refused error) = counter.Refused
 

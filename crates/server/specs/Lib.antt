@@ -5,6 +5,7 @@ pub mod Counters
 pub mod CounterValues
 pub mod Entries
 pub mod Filling
+pub mod Hairpins
 pub mod Nonces
 pub mod RoundSteps
 pub mod Rounds

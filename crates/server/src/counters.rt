@@ -148,9 +148,9 @@ fn response_counter(response: Response) -> Counter
         Response::Unauthenticated(AuthError::Missing | AuthError::StaleNonce) => {
             Counter::Challenged
         }
-        Response::Unauthenticated(AuthError::UnknownUser | AuthError::WrongIntegrity) => {
-            Counter::Unauthenticated
-        }
+        Response::Unauthenticated(
+            AuthError::UnknownUser | AuthError::WrongIntegrity | AuthError::Expired,
+        ) => { Counter::Unauthenticated }
         Response::Unauthenticated(AuthError::Incomplete) | Response::Refused(_) => Counter::Refused,
     }
 }

@@ -4,6 +4,7 @@
 
 mod ahead;
 mod counters;
+mod hairpin;
 mod laws;
 mod link;
 mod moments;
@@ -19,9 +20,10 @@ mod turning;
 
 pub use ahead::{Ahead, ROOM, Receipt, TURNS};
 pub use counters::{Counter, Counters, KINDS, Kind, Outcome, REASONS};
+pub use hairpin::Hairpin;
 pub use laws::{law_each_datagram_is_counted_once, law_rounds_are_fair};
 pub use link::{Link, LinkFault, Place};
-pub use moments::Moments;
+pub use moments::{ClockOffset, Moments};
 pub use nonce::draw_nonce;
 pub use ports::Ports;
 pub use recorder::Recorder;
@@ -29,5 +31,5 @@ pub use round::{Endpoints, serve_round};
 pub use schedule::{Schedule, Status};
 pub use serving::{ServeError, serve_once};
 pub use timer::Timer;
-pub use tokens::socket_of;
+pub use tokens::{SocketId, socket_of};
 pub use turning::{Arrival, Served, source_at, turn};

@@ -1,5 +1,5 @@
 -- What is known where a field of the configuration is refused, and where none is.
-use Rattle.std.proofs.Common.{◌≡◌, ◌≤◌, List, length, Option, refl}
+use Rattle.std.proofs.Common.{◌≡◌, ◌≤◌, pos, List, length, Option, refl}
 use Rattle.arrayvec.specs.ArrayString.{ArrayString}
 use Rattle.control.specs.Configs.{fault}
 use Rattle.control.specs.declared.config.Config.{Config}
@@ -19,6 +19,7 @@ config_of s nonce = record {
   nonce = nonce;
   users = s.users;
   secret = s.secret;
+  clock_ahead = pos 0;
 }
 
 pub has_fault : (s : Setup) (nonce : ArrayString) (client peer : List Insn) (field : Option Field)
@@ -29,6 +30,6 @@ has_fault s nonce client peer field copied fits is_client is_peer fault_is = rec
   client = (client, is_client);
   peer = (peer, is_peer);
   config = config_of s nonce;
-  is_config = record { ip = refl; ip6 = refl; first_port = refl; slots = refl; realm = refl; nonce = copied; users_are = refl; secret = refl };
+  is_config = record { ip = refl; ip6 = refl; first_port = refl; slots = refl; realm = refl; nonce = copied; users_are = refl; secret = refl; clock = refl };
   is_fault = fault_is;
 }

@@ -1,5 +1,5 @@
 -- Meaning. What a relay is set up from, and the first of its faults.
-use Rattle.std.specs.Prelude.{◌≡◌, ℕ, ◌<◌, ◌≤◌, List, Option, Some, None, length, string_bytes, IsSomeAnd}
+use Rattle.std.specs.Prelude.{◌≡◌, ℕ, pos, ◌<◌, ◌≤◌, List, Option, Some, None, length, string_bytes, IsSomeAnd}
 use Rattle.std.specs.Borrow.{Bor}
 use Rattle.control.specs.Configs.{fault}
 use Rattle.control.specs.declared.config.Config.{Config}
@@ -35,6 +35,7 @@ pub record IsConfigOf (s : Setup) (c : Config) : Type 0 where
   pub nonce : c.nonce.bytes ≡ s.nonce.now
   pub users_are : c.users.items ≡ s.users.items
   pub secret : c.secret ≡ s.secret
+  pub clock : c.clock_ahead ≡ pos 0
 
 -- the bytes were read, and this program is loaded from them
 abbrev pub IsProgram : Option (Bor (List ℕ)) → List Insn → Type 0

@@ -12,4 +12,6 @@ pub use aliases::alias;
 pub use error::{ProgramError, RefusedProgram, SetupError};
 pub use secrets::secret;
 pub use setting_up::{Setup, program, relay_of};
-pub use users::{UsersError, add_users, add_users_of_lines, is_comment, user};
+pub use users::{
+    LineFault, TextFault, UsersError, add_users, add_users_of_lines, is_comment, user,
+};

@@ -34,6 +34,7 @@ pub fn config(alloc: Global, ip: [u8; 4], slots: usize) -> Result<Config, AllocE
         nonce,
         users,
         secret: None,
+        clock_ahead: 0,
     })
 }
 

@@ -99,6 +99,7 @@ fn unconfined_relay_of(alloc: Global, setup: Setup<'_>) -> Result<Relay, SetupEr
         nonce,
         users: setup.users,
         secret: setup.secret,
+        clock_ahead: 0,
     };
     match Relay::new(alloc, config, client, peer) {
         Ok(relay) => Ok(relay),

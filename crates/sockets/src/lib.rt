@@ -1,6 +1,7 @@
 //! The UDP sockets of a server.
 #![tactic(auto)]
 
+mod clients;
 mod sockets;
 mod udp;
 

@@ -1,13 +1,15 @@
 //! The sockets of a server: one for clients, and one of each family for the peers of each slot.
 
-use crate::udp::{SocketOptions, bind, buffer_of, receive};
+use crate::clients::{ClientSockets, socket_address};
+use crate::udp::{SocketOptions, addr_of, bind, buffer_of, receive};
 use attributes::{Addr, Family};
 use mio::net::UdpSocket;
 use mio::{Interest, Poll, Registry, Token};
-use server::{Ahead, Link, LinkFault, Place, Ports, Receipt, socket_of};
+use server::{Ahead, Hairpin, Link, LinkFault, Place, Ports, Receipt, SocketId, socket_of};
 use std::alloc::{AllocError, Global};
 use std::io::{self, ErrorKind};
-use std::net::{IpAddr, Ipv4Addr, Ipv6Addr, Net, SocketAddr, SocketAddrV4, SocketAddrV6};
+use std::net::{IpAddr, Ipv4Addr, Ipv6Addr, Net, SocketAddr};
+use tables::Tables;
 use thiserror::Error;
 
 /// The addresses that the sockets of a server are bound to.
@@ -25,6 +27,10 @@ pub struct Addresses {
     pub slots: usize,
     /// The options of the clients' socket. The others' ports aren't shared.
     pub options: SocketOptions,
+    /// The relayed IPv4 address.
+    pub relayed: Ipv4Addr,
+    /// The relayed IPv6 address, if there is one.
+    pub relayed6: Option<Ipv6Addr>,
 }
 
 impl Addresses {
@@ -42,6 +48,41 @@ impl Addresses {
             first,
             last: u16::try_from(last).unwrap_or(u16::MAX),
         }
+    }
+
+    /// Returns by which address data of one slot comes to another, where a relayed address isn't the one that the slots' sockets are
+    /// bound to. Sockets that are bound to all addresses are reached by that of the machine itself.
+    fn hairpin(&self, relayed: IpAddr, listen: IpAddr, itself: IpAddr) -> Option<Hairpin> {
+        let bound = if listen.is_unspecified() {
+            itself
+        } else {
+            listen
+        };
+        let Ports { first, last, .. } = self.ports(self.port);
+        (relayed != listen).then_some(Hairpin {
+            relayed: addr_of(SocketAddr::new(relayed, 0)),
+            bound: addr_of(SocketAddr::new(bound, 0)),
+            first,
+            last,
+        })
+    }
+
+    /// Returns by which address data of one slot comes to another, for each family.
+    fn hairpins(&self) -> (Option<Hairpin>, Option<Hairpin>) {
+        let ipv4 = self.hairpin(
+            IpAddr::V4(self.relayed),
+            IpAddr::V4(self.listen),
+            IpAddr::V4(Ipv4Addr::LOCALHOST),
+        );
+        let ipv6 = match (self.relayed6, self.listen6) {
+            (Some(relayed), Some(listen)) => self.hairpin(
+                IpAddr::V6(relayed),
+                IpAddr::V6(listen),
+                IpAddr::V6(Ipv6Addr::LOCALHOST),
+            ),
+            _ => None,
+        };
+        (ipv4, ipv6)
     }
 }
 
@@ -74,14 +115,20 @@ pub enum BindError {
 /// See docs/DECISIONS.md, "Two sockets for each slot".
 #[derive(Drop)]
 pub struct EndpointSockets {
+    /// The socket of all clients.
     client: UdpSocket,
+    /// Those of clients that have an allocation.
+    clients: ClientSockets,
     /// The socket of IPv4 of each slot.
     slots: Vec<UdpSocket>,
     /// The socket of IPv6 of each slot; empty without an IPv6 address.
     slots6: Vec<UdpSocket>,
     ports: Ports,
-    /// The family of the sockets at which the datagrams of slots are received.
-    family: Family,
+    /// By which addresses data of one slot comes to another, of each family, where relayed addresses aren't those of the sockets.
+    hairpin: Option<Hairpin>,
+    hairpin6: Option<Hairpin>,
+    /// The socket at which datagrams are received.
+    chosen: SocketId,
 }
 
 /// The sockets of a server, and what was received ahead at one of them.
@@ -90,6 +137,9 @@ pub struct Sockets {
     endpoints: EndpointSockets,
     ahead: Ahead,
 }
+
+/// The token of the socket of the client of slot 0.
+const FIRST_CLIENT: usize = 1;
 
 /// The numbers of the system's errors for too many open files, of the process and of the machine.
 const EMFILE: i32 = 24;
@@ -163,15 +213,22 @@ impl EndpointSockets {
                 return Err(BindError::Address(addresses.client(), BindErrorKind::from(error)));
             }
         };
+        let (hairpin, hairpin6) = addresses.hairpins();
+        let Ok(clients) = ClientSockets::new(rt.alloc(), addresses.slots, addresses.options) else {
+            return Err(BindError::Memory);
+        };
         Ok(EndpointSockets {
             client,
+            clients,
             slots: bind_slots(rt, listen, addresses)?,
             slots6: match addresses.listen6 {
                 Some(ip) => bind_slots(rt, IpAddr::V6(ip), addresses)?,
                 None => Vec::new(rt.alloc()),
             },
             ports: addresses.ports(port),
-            family: Family::Ipv4,
+            hairpin,
+            hairpin6,
+            chosen: SocketId::Clients,
         })
     }
 
@@ -189,6 +246,34 @@ impl EndpointSockets {
             (Place::Slot(slot), Family::Ipv6) => self.slots6.get(slot),
         };
         socket.ok_or(LinkFault)
+    }
+
+    /// Returns by which addresses data of one slot comes to another, where an address is one of these.
+    #[inline(always)]
+    fn hairpin_at(&self, endpoint: Place, address: &Addr) -> &Option<Hairpin> {
+        match (endpoint, address) {
+            (Place::Client, _) => &None,
+            (Place::Slot(_), Addr::V4 { .. }) => &self.hairpin,
+            (Place::Slot(_), Addr::V6 { .. }) => &self.hairpin6,
+        }
+    }
+
+    /// Returns where data from an endpoint to an address is sent.
+    #[inline(always)]
+    fn outward(&self, endpoint: Place, to: Addr) -> Addr {
+        match self.hairpin_at(endpoint, &to) {
+            Some(hairpin) => hairpin.outward(to),
+            None => to,
+        }
+    }
+
+    /// Returns where data that came from an address at an endpoint is from.
+    #[inline(always)]
+    fn inward(&self, endpoint: Place, from: Addr) -> Addr {
+        match self.hairpin_at(endpoint, &from) {
+            Some(hairpin) => hairpin.inward(from),
+            None => from,
+        }
     }
 }
 
@@ -217,14 +302,18 @@ impl Sockets {
         self.endpoints.client.local_addr()
     }
 
-    /// Returns the number of sockets.
+    /// Returns the number of tokens: one for each socket, and for each that a client may have.
     pub fn count(&self) -> usize {
         let EndpointSockets { slots, slots6, .. } = &self.endpoints;
-        slots.len().saturating_add(slots6.len()).saturating_add(1)
+        let clients = slots.len();
+        slots
+            .len()
+            .saturating_add(slots6.len())
+            .saturating_add(clients)
+            .saturating_add(1)
     }
 
-    /// Has a poll report each socket under its token, when datagrams have come there: 0 is that of clients, those of IPv4 of the
-    /// slots follow in order, and then those of IPv6.
+    /// Has a poll report each socket under its token, as [`socket_of`] says, when datagrams have come there.
     pub fn register(&mut self, poll: &Poll) -> io::Result<()> {
         let EndpointSockets {
             client,
@@ -234,17 +323,46 @@ impl Sockets {
         } = &mut self.endpoints;
         let registry = poll.registry();
         registry.register(client, Token(0), Interest::READABLE)?;
-        let after = slots.len().saturating_add(1);
-        register_all(registry, slots.as_mut_slice(), 1)?;
-        register_all(registry, slots6.as_mut_slice(), after)
+        let first = slots.len().saturating_add(FIRST_CLIENT);
+        let first6 = slots.len().saturating_add(first);
+        register_all(registry, slots.as_mut_slice(), first)?;
+        register_all(registry, slots6.as_mut_slice(), first6)
     }
 
-    /// Chooses a socket by its token, and returns its endpoint. The datagrams of a slot are received at the socket that was
-    /// chosen last.
+    /// Chooses a socket by its token, and returns its endpoint. Datagrams are received at the socket that was chosen last.
     pub fn choose(&mut self, token: usize) -> Place {
-        let (endpoint, family) = socket_of(token, self.endpoints.slots.len());
-        self.endpoints.family = family;
-        endpoint
+        let socket = socket_of(token, self.endpoints.slots.len());
+        self.endpoints.chosen = socket;
+        socket.place()
+    }
+
+    /// Notes that the client of a slot is to have a socket of its own, to which the system hands its datagrams alone.
+    /// See docs/DECISIONS.md, "A socket for each client".
+    pub fn want_own(&mut self, slot: usize, client: Addr) {
+        self.endpoints.clients.want(slot, client);
+    }
+
+    /// Gives the clients that are to have a socket one, which a poll reports.
+    pub fn connect_wanted<R: Net>(&mut self, rt: &R, poll: &Poll) {
+        let EndpointSockets {
+            client,
+            clients,
+            ..
+        } = &mut self.endpoints;
+        clients.connect_wanted(rt, client, poll.registry(), FIRST_CLIENT);
+    }
+
+    /// Closes the sockets of clients that have no allocation at their slot any more, and at which nothing waits.
+    pub fn close_others(&mut self, tables: &Tables, now: u64) {
+        for slot in 0..self.endpoints.slots.len() {
+            let Some(client) = self.endpoints.clients.client_of(slot) else {
+                continue;
+            };
+            let holder = tables.allocation_at(slot, now);
+            if !holder.is_some_and(|allocation| allocation.client == client) {
+                self.endpoints.clients.close_idle(slot);
+            }
+        }
     }
 
     /// Receives ahead at an endpoint.
@@ -256,22 +374,31 @@ impl Sockets {
 impl Link for EndpointSockets {
     #[inline(always)]
     fn receive(&mut self, endpoint: Place, into: &mut [u8]) -> Result<Receipt, LinkFault> {
-        receive(self.at(endpoint, self.family)?, into)
+        let receipt = match (endpoint, self.chosen) {
+            (Place::Client, SocketId::ClientOf(slot)) => self.clients.receive(slot, into)?,
+            (Place::Slot(_), SocketId::Slot(_, family)) => {
+                receive(self.at(endpoint, family)?, into)?
+            }
+            _ => receive(self.at(endpoint, Family::Ipv4)?, into)?,
+        };
+        match receipt {
+            Some((n, from)) => Ok(Some((n, self.inward(endpoint, from)))),
+            None => Ok(None),
+        }
     }
 
     /// Sends a datagram from an endpoint. One that would have to wait, or isn't sent whole, is a fault.
+    /// See docs/DECISIONS.md, "Data between two clients of one server".
     fn send(&mut self, endpoint: Place, to: Addr, bytes: &[u8]) -> Result<(), LinkFault> {
-        let (family, to) = match to {
-            Addr::V4 { ip, port } => {
-                let to = SocketAddrV4::new(Ipv4Addr::from(ip), port);
-                (Family::Ipv4, SocketAddr::V4(to))
-            }
-            Addr::V6 { ip, port } => {
-                let to = SocketAddrV6::new(Ipv6Addr::from(ip), port, 0, 0);
-                (Family::Ipv6, SocketAddr::V6(to))
-            }
+        let to = self.outward(endpoint, to);
+        let family = match to {
+            Addr::V4 { .. } => Family::Ipv4,
+            Addr::V6 { .. } => Family::Ipv6,
         };
-        match self.at(endpoint, family)?.send_to(bytes, to) {
+        match self
+            .at(endpoint, family)?
+            .send_to(bytes, socket_address(to))
+        {
             Ok(n) if n == bytes.len() => Ok(()),
             _ => Err(LinkFault),
         }

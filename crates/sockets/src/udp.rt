@@ -65,6 +65,20 @@ fn set(fd: i32, options: SocketOptions) -> io::Result<()> {
     Ok(())
 }
 
+/// Lets further sockets of this user be bound to the address of a socket, or lets none.
+pub(crate) fn share(socket: &UdpSocket, is_shared: bool) -> io::Result<()> {
+    let shared = value(i32::from(is_shared));
+    check(unsafe {
+        c::setsockopt(
+            socket.as_raw_fd(),
+            c::SOL_SOCKET,
+            c::SO_REUSEPORT,
+            &shared,
+            4,
+        )
+    })
+}
+
 /// Returns an address as the bytes of C's `sockaddr_in`.
 fn encode(address: SocketAddrV4) -> [u8; c::_SS_SIZE] {
     let mut raw = [0u8; c::_SS_SIZE];
@@ -133,7 +147,7 @@ pub(crate) fn buffer_of(socket: &UdpSocket) -> io::Result<i32> {
 
 /// Returns the address of a socket.
 #[inline(always)]
-fn addr_of(address: SocketAddr) -> Addr {
+pub(crate) fn addr_of(address: SocketAddr) -> Addr {
     let port = address.port();
     match address {
         SocketAddr::V4(address) => Addr::V4 {

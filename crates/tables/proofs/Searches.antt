@@ -1,5 +1,5 @@
 -- What a comparison rules out of rows in ascending order, and how often they can be halved.
-use Rattle.std.proofs.Common.{◌≡◌, ℕ, zero, suc, ◌+◌, ◌-◌, ◌*◌, ◌/◌, ◌^◌, ◌<◌, ◌≤◌, true, false, List, length, Result, Ok, Err, IfOk, IfErr, get_or, Ordering, Less, Equal, Greater, sym, refl, ap, ◌∙◌, subst, inl, inr, arith}
+use Rattle.std.proofs.Common.{◌≡◌, ℕ, zero, suc, ◌+◌, ◌-◌, ◌*◌, ◌/◌, ◌^◌, pow_mono, ◌<◌, ◌≤◌, true, false, List, length, Result, Ok, Err, IfOk, IfErr, get_or, Ordering, Less, Equal, Greater, sym, refl, ap, ◌∙◌, subst, inl, inr, arith}
 use Rattle.std.specs.Ordering.{is_lt, is_gt}
 use Rattle.std.proofs.lemmas.Bool.{cases_Bool, cases_eq, both_ways}
 use Rattle.std.proofs.lemmas.List.{get_or_default}
@@ -51,6 +51,11 @@ halved old k steps size half before some less =
     let more = halved_from (old + k - steps) size half before.1 some less in
     let fewer : old + k - steps - 1 ≡ old + k - (steps + 1) = omega arith in
     (omega (arith, before.0, more.0), subst (λ n. half < 2 ^ n) fewer more.1)
+
+-- a tick raises the count by at most one
+pub fewer_ticks : (old k made now half : ℕ) → now ≤ made + 1 → (made + 1 ≤ old + k) × (half < 2 ^ (old + k - (made + 1)))
+    → (now ≤ old + k) × (half < 2 ^ (old + k - now))
+fewer_ticks old k made now half le h = (omega (arith, le, h.0), omega (arith, h.1, pow_mono {i = old + k - (made + 1)} {j = old + k - now} (omega (arith, le, h.0))))
 
 -- ---- a row at its place
 

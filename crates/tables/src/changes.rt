@@ -7,6 +7,7 @@ use crate::permissions::Permissions;
 use crate::refusal::TableError;
 use crate::storage::Tables;
 use attributes::{Addr, Family, law_is_address};
+use basics::steps::Uncounted;
 
 impl Tables {
     ghost use Rattle.std.specs.Prelude.{◌≡◌, ◌≤◌, ◌<◌, IfOk, IsTrue, length};
@@ -37,7 +38,7 @@ impl Tables {
         ensures slots { length self.new.slots ≡ length self.old.slots }
     {
         let moment = self.moment_at(now);
-        if self.allocation_of(client, now).is_some() {
+        if self.allocation_of(client, now, &mut Uncounted).is_some() {
             return Err(TableError::Mismatch);
         }
         let slot = self.first_free(moment).ok_or(TableError::Capacity)?;

@@ -9,10 +9,9 @@ use crate::refusal::TableError;
 use crate::search::{Row, place_of, put_at, search};
 use arrayvec::ArrayVec;
 use attributes::{Addr, law_is_address};
-use basics::steps::Steps;
+use basics::steps::Count;
 use std::cmp::Ordering;
 use std::marker::Model;
-use std::sync::ledger::Ledger;
 
 /// The lifetime of a channel, in seconds (RFC 8656, section 12).
 pub const CHANNEL_LIFETIME: u64 = 600;
@@ -147,12 +146,12 @@ impl Channels {
     }
 
     /// Returns what a number is bound to, if it is bound.
-    pub(crate) fn binding_of<L: Ledger>(&self, number: u16, steps: &mut Steps<L>) -> Option<Binding>
+    pub(crate) fn binding_of<C: Count>(&self, number: u16, keys: &mut C) -> Option<Binding>
         ensures binding { result ≡ get self.now number }
-        ensures keys { steps.new ≤ steps.old + 7 }
+        ensures keys { C.count keys.new ≤ C.count keys.old + 7 }
     {
         let rows = self.rows.as_slice();
-        match search(rows, &number, steps) {
+        match search(rows, &number, keys) {
             Ok(index) => Some(rows[index].binding),
             Err(_) => None,
         }
@@ -181,18 +180,13 @@ impl Channels {
     }
 
     /// Returns the number that is bound to a peer by a channel that is live at a moment, if there is one.
-    pub(crate) fn number_at<L: Ledger>(
-        &self,
-        peer: &Addr,
-        moment: u64,
-        steps: &mut Steps<L>,
-    ) -> Option<u16>
+    pub(crate) fn number_at<C: Count>(&self, peer: &Addr, moment: u64, keys: &mut C) -> Option<u16>
         ensures number { result ≡ number_to peer.now (channels_at moment self.now) }
         ensures range { IfSome result IsChannelNumber }
-        ensures keys { steps.new ≤ steps.old + 7 }
+        ensures keys { C.count keys.new ≤ C.count keys.old + 7 }
     {
         let rows = self.by_peer.as_slice();
-        let index = match search(rows, peer, steps) {
+        let index = match search(rows, peer, keys) {
             Ok(index) => index,
             Err(_) => return None,
         };

@@ -7,7 +7,6 @@ mod allocation;
 mod changes;
 mod channels;
 mod clients;
-pub mod counted;
 mod held;
 mod limits;
 mod listing;
@@ -22,7 +21,7 @@ mod users;
 
 pub use address::is_ipv4;
 pub use allocation::Allocation;
-pub use basics::steps::Steps;
+pub use basics::steps::{Count, Steps, Uncounted};
 pub use channels::{Binding, CHANNEL_LIFETIME, Channel, FIRST_CHANNEL, LAST_CHANNEL, MAX_CHANNELS};
 pub use limits::{law_capacities, law_lifetimes};
 pub use live_slot::LiveSlot;

@@ -8,9 +8,8 @@ use crate::held::Held;
 use crate::permissions::{MAX_PERMISSIONS, Permission};
 use arrayvec::ArrayVec;
 use attributes::Addr;
-use basics::steps::Steps;
-use std::marker::{Brand, Model};
-use std::sync::ledger::{Blank, Ledger};
+use basics::steps::Count;
+use std::marker::Model;
 
 /// A slot whose allocation is live at a moment, found once for several look-ups.
 ///
@@ -67,29 +66,42 @@ impl<'a> LiveSlot<'a> {
         &self.held.allocation
     }
 
-    /// Returns the peer that a channel is bound to.
-    pub fn peer_of(&self, number: u16) -> Option<Addr>
-        ensures { result ≡ bound_peer number self.now }
+    /// Returns the peer that a channel is bound to. Of the slot's channels at most 7 are compared, of 64.
+    pub fn peer_of<C: Count>(&self, number: u16, keys: &mut C) -> Option<Addr>
+        ensures peer { result ≡ bound_peer number self.now }
+        ensures keys { C.count keys.new ≤ C.count keys.old + 7 }
     {
-        self.peer_of_by::<Brand>(number, Blank::new(1))
+        let binding = self.held.channels.binding_of(number, keys)?;
+        if self.moment < binding.end {
+            Some(binding.peer)
+        } else {
+            None
+        }
     }
 
-    /// Returns the channel that is bound to a peer: a number from [`FIRST_CHANNEL`] to [`LAST_CHANNEL`].
+    /// Returns the channel that is bound to a peer: a number from [`FIRST_CHANNEL`] to [`LAST_CHANNEL`]. Of the slot's peers at most
+    /// 7 are compared, of 64.
     ///
     /// [`FIRST_CHANNEL`]: crate::FIRST_CHANNEL
     /// [`LAST_CHANNEL`]: crate::LAST_CHANNEL
-    pub fn channel_of(&self, peer: Addr) -> Option<u16>
+    pub fn channel_of<C: Count>(&self, peer: Addr, keys: &mut C) -> Option<u16>
         ensures number { result ≡ bound_channel peer self.now }
         ensures range { IfSome result IsChannelNumber }
+        ensures keys { C.count keys.new ≤ C.count keys.old + 7 }
     {
-        self.channel_of_by::<Brand>(peer, Blank::new(1))
+        self.held.channels.number_at(&peer, self.moment, keys)
     }
 
-    /// Returns whether an IP address has a permission. The port is not looked at.
-    pub fn permitted(&self, ip: Addr) -> bool
-        ensures { result ≡ is_some (permission_of ip self.now) }
+    /// Returns whether an IP address has a permission. The port is not looked at. Of the slot's addresses at most 7 are compared, of
+    /// 64.
+    pub fn permitted<C: Count>(&self, ip: Addr, keys: &mut C) -> bool
+        ensures permitted { result ≡ is_some (permission_of ip self.now) }
+        ensures keys { C.count keys.new ≤ C.count keys.old + 7 }
     {
-        self.permitted_by::<Brand>(ip, Blank::new(1))
+        match self.held.permissions.end_of(&ip, keys) {
+            Some(end) => self.moment < end,
+            None => false,
+        }
     }
 
     /// Returns the permissions, in the order of their IP addresses.
@@ -106,77 +118,5 @@ impl<'a> LiveSlot<'a> {
         ensures distinct { AreChannels result.items }
     {
         self.held.channels.at(self.moment).into_rows()
-    }
-
-    /// As [`LiveSlot::peer_of`], over a counter that is named by `blank`.
-    fn peer_of_by<L: Ledger>(&self, number: u16, blank: Blank) -> Option<Addr>
-        requires name { blank.name ≡ L.name }
-        requires parts { blank.parts ≡ L.parts }
-        requires some { 0 < L.parts }
-        ensures { result ≡ bound_peer number self.now }
-    {
-        self.counted_peer_of(number, &mut Steps::<L>::new(blank))
-    }
-
-    /// As [`LiveSlot::channel_of`], over a counter that is named by `blank`.
-    fn channel_of_by<L: Ledger>(&self, peer: Addr, blank: Blank) -> Option<u16>
-        requires name { blank.name ≡ L.name }
-        requires parts { blank.parts ≡ L.parts }
-        requires some { 0 < L.parts }
-        ensures number { result ≡ bound_channel peer self.now }
-        ensures range { IfSome result IsChannelNumber }
-    {
-        self.counted_channel_of(peer, &mut Steps::<L>::new(blank))
-    }
-
-    /// As [`LiveSlot::permitted`], over a counter that is named by `blank`.
-    fn permitted_by<L: Ledger>(&self, ip: Addr, blank: Blank) -> bool
-        requires name { blank.name ≡ L.name }
-        requires parts { blank.parts ≡ L.parts }
-        requires some { 0 < L.parts }
-        ensures { result ≡ is_some (permission_of ip self.now) }
-    {
-        self.counted_permitted(ip, &mut Steps::<L>::new(blank))
-    }
-
-    /// As [`LiveSlot::peer_of`]. At most 7 of the slot's channels are compared.
-    pub(crate) fn counted_peer_of<L: Ledger>(
-        &self,
-        number: u16,
-        steps: &mut Steps<L>,
-    ) -> Option<Addr>
-        ensures peer { result ≡ bound_peer number self.now }
-        ensures keys { steps.new ≤ steps.old + 7 }
-    {
-        let binding = self.held.channels.binding_of(number, steps)?;
-        if self.moment < binding.end {
-            Some(binding.peer)
-        } else {
-            None
-        }
-    }
-
-    /// As [`LiveSlot::channel_of`]. At most 7 of the slot's peers are compared.
-    pub(crate) fn counted_channel_of<L: Ledger>(
-        &self,
-        peer: Addr,
-        steps: &mut Steps<L>,
-    ) -> Option<u16>
-        ensures number { result ≡ bound_channel peer self.now }
-        ensures range { IfSome result IsChannelNumber }
-        ensures keys { steps.new ≤ steps.old + 7 }
-    {
-        self.held.channels.number_at(&peer, self.moment, steps)
-    }
-
-    /// As [`LiveSlot::permitted`]. At most 7 of the slot's addresses are compared.
-    pub(crate) fn counted_permitted<L: Ledger>(&self, ip: Addr, steps: &mut Steps<L>) -> bool
-        ensures permitted { result ≡ is_some (permission_of ip self.now) }
-        ensures keys { steps.new ≤ steps.old + 7 }
-    {
-        match self.held.permissions.end_of(&ip, steps) {
-            Some(end) => self.moment < end,
-            None => false,
-        }
     }
 }

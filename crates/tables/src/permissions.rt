@@ -4,10 +4,9 @@ use crate::refusal::TableError;
 use crate::search::{Row, place_of, search};
 use arrayvec::ArrayVec;
 use attributes::Addr;
-use basics::steps::Steps;
+use basics::steps::Count;
 use std::cmp::Ordering;
 use std::marker::Model;
-use std::sync::ledger::Ledger;
 
 /// The lifetime of a permission, in seconds (RFC 8656, section 9).
 pub const PERMISSION_LIFETIME: u64 = 300;
@@ -90,12 +89,12 @@ impl Permissions {
     }
 
     /// Returns the end of the permission of an IP address, if there is one.
-    pub(crate) fn end_of<L: Ledger>(&self, ip: &Addr, steps: &mut Steps<L>) -> Option<u64>
+    pub(crate) fn end_of<C: Count>(&self, ip: &Addr, keys: &mut C) -> Option<u64>
         ensures end { result ≡ get self.now (ip_of ip.now) }
-        ensures keys { steps.new ≤ steps.old + 7 }
+        ensures keys { C.count keys.new ≤ C.count keys.old + 7 }
     {
         let rows = self.rows.as_slice();
-        match search(rows, ip, steps) {
+        match search(rows, ip, keys) {
             Ok(index) => Some(rows[index].end),
             Err(_) => None,
         }

@@ -5,10 +5,8 @@ ghost use Rattle.std.specs.declared.cmp.Ordering.{Ordering};
 ghost use Rattle.tables.specs.Search.{AreAscending, IsPlace, with_row};
 
 use arrayvec::ArrayVec;
-use basics::steps::Steps;
+use basics::steps::{Count, Uncounted};
 use std::cmp::Ordering;
-use std::marker::Brand;
-use std::sync::ledger::{Blank, Ledger};
 
 /// A row of a list that is in the order of keys of the type `K`.
 pub(crate) trait Row<K> {
@@ -19,25 +17,25 @@ pub(crate) trait Row<K> {
         ensures { result ≡ order self.now key.now };
 }
 
-/// Returns the index of the row of a key, or else the index at which it would be inserted. `steps` counts one for each row
-/// that is compared: at most as many as the number of rows has binary digits.
+/// Returns the index of the row of a key, or else the index at which it would be inserted. `keys` counts one for each key that is
+/// compared: at most as many as the number of rows has binary digits.
 ///
 /// # Errors
 /// The index at which a row of the key would be inserted, where there is none.
-pub(crate) fn search<K, R: Row<K>, L: Ledger>(
+pub(crate) fn search<K, R: Row<K>, C: Count>(
     rows: &[R],
     key: &K,
-    steps: &mut Steps<L>,
+    keys: &mut C,
 ) -> Result<usize, usize>
     requires { AreAscending (λ row. R.order row key.now) rows.now }
     ensures place { IsPlace (λ row. R.order row key.now) rows.now result }
-    ensures count { (k : ℕ) → length rows.now < 2 ^ k → steps.new ≤ steps.old + k }
+    ensures count { (k : ℕ) → length rows.now < 2 ^ k → C.count keys.new ≤ C.count keys.old + k }
 {
     let mut low = 0;
     let mut high = rows.len();
     while low < high {
         let middle = low + (high - low) / 2;
-        steps.tick();
+        keys.tick();
         match rows[middle].compare(key) {
             Ordering::Less => low = middle + 1,
             Ordering::Equal => return Ok(middle),
@@ -45,18 +43,6 @@ pub(crate) fn search<K, R: Row<K>, L: Ledger>(
         }
     }
     Err(low)
-}
-
-/// As [`place_of`], over a counter that is named by `blank`.
-fn place_of_by<K, R: Row<K>, L: Ledger>(rows: &[R], key: &K, blank: Blank) -> Result<usize, usize>
-    requires ascending { AreAscending (λ row. R.order row key.now) rows.now }
-    requires name { blank.name ≡ L.name }
-    requires parts { blank.parts ≡ L.parts }
-    requires some { 0 < L.parts }
-    ensures { IsPlace (λ row. R.order row key.now) rows.now result }
-{
-    let mut steps = Steps::<L>::new(blank);
-    search(rows, key, &mut steps)
 }
 
 /// As [`search`], for a change, which counts nothing.
@@ -67,7 +53,7 @@ pub(crate) fn place_of<K, R: Row<K>>(rows: &[R], key: &K) -> Result<usize, usize
     requires { AreAscending (λ row. R.order row key.now) rows.now }
     ensures { IsPlace (λ row. R.order row key.now) rows.now result }
 {
-    place_of_by::<K, R, Brand>(rows, key, Blank::new(1))
+    search(rows, key, &mut Uncounted)
 }
 
 /// Writes a row over that at its place, or inserts it there.

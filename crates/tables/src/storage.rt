@@ -10,10 +10,9 @@ use crate::search::{place_of, put_at, search};
 use crate::users::replace_each_user;
 use arrayvec::ArrayVec;
 use attributes::Addr;
-use basics::steps::Steps;
+use basics::steps::Count;
 use std::alloc::{AllocError, Global};
 use std::marker::{Brand, Model};
-use std::sync::ledger::{Blank, Ledger};
 
 /// The greatest number of slots, each of which has one allocation or none.
 pub const MAX_ALLOCATIONS: usize = 256;
@@ -122,21 +121,21 @@ impl Tables {
         }
     }
 
-    /// Returns what a client's slot holds, if its allocation is live at a moment.
-    pub(crate) fn live_by<L: Ledger>(
+    /// Returns what a client's slot holds, if its allocation is live at a moment. At most 9 keys are compared.
+    pub(crate) fn live_by<C: Count>(
         &self,
         client: &Addr,
         moment: u64,
-        steps: &mut Steps<L>,
+        keys: &mut C,
     ) -> Option<LiveSlot<'_>>
         requires later { self.now.moment ≤ moment }
         ensures live { result ≡ held_by client.now (live_rows moment self.now) }
         ensures at_slot { IfSome result (λ l. held_in (live_rows moment self.now) l.allocation.slot ≡ Some l) }
         ensures inside { IfSome result (λ l. l.allocation.slot < length self.now.slots) }
-        ensures keys { steps.new ≤ steps.old + 9 }
+        ensures keys { C.count keys.new ≤ C.count keys.old + 9 }
     {
         let clients = self.clients.as_slice();
-        match search(clients, client, steps) {
+        match search(clients, client, keys) {
             Ok(index) => self.live(clients[index].slot, moment),
             Err(_) => None,
         }

@@ -1,4 +1,5 @@
 pub mod Sizes
+pub mod Slots
 pub mod Positions
 pub mod Branches
 pub mod Counting

@@ -1,18 +1,17 @@
 -- Positions of a program whose layout is good, and the loop over its jumps.
-use Rattle.std.proofs.Common.{◌≡◌, ℕ, ◌+◌, ◌<◌, ◌≤◌, Bool, true, false, cond, List, [], ◌∷◌, length, get_or, Result, Ok, Err, inl, inr, refl, sym, ap, ◌∙◌, arith}
+use Rattle.std.proofs.Common.{◌≡◌, ℕ, ◌+◌, ◌<◌, ◌≤◌, Bool, true, false, cond, List, [], ◌∷◌, Result, Ok, Err, inl, inr, refl, sym, ap, ◌∙◌, arith}
 use Rattle.std.specs.Prelude.{ℤ, int_le, pos, ◌+ℤ◌, unsigned_abs}
 use Rattle.std.proofs.lemmas.Bool.{cases_lt}
 use Rattle.insn.specs.Encoding.{slots_of, slot_count}
 use Rattle.insn.specs.declared.instruction.Insn.{Insn}
 use Rattle.insn.specs.declared.instruction.Insn.TheVariants.{Exit}
-use Rattle.semantics.specs.Slots.{fetch, target, landing, last_slot, IsAt}
-use Rattle.semantics.specs.laws.Slot.{slots_go_on, fetch_past, fetch_at, fetch_before_next, at_start, at_end}
+use Rattle.semantics.specs.Slots.{fetch, target, landing, last_slot}
+use Rattle.semantics.specs.laws.Slot.{slots_go_on, fetch_past}
 use Rattle.semantics.specs.declared.reason.Reason.{Reason}
 use Rattle.semantics.specs.declared.reason.Reason.TheVariants.{JumpBackward, FallsOffEnd}
 use Rattle.semantics.specs.declared.fetching.Fetched.{Fetched}
 use Rattle.semantics.specs.declared.fetching.Fetched.TheVariants.{Begins, Inside, Past}
-use Rattle.semantics.specs.declared.fetching.Position.{Position}
-use Rattle.verifier.specs.Layout.{jump_checked, fetched_checked, slot_checked, HasGoodJumps, EndsInExit, IsFirstFaultyJump, IsLayoutFault}
+use Rattle.verifier.specs.Layout.{fetched_checked, slot_checked, HasGoodJumps, EndsInExit, IsFirstFaultyJump, IsLayoutFault}
 use Rattle.absstate.specs.Successors.{Successors, One, Two, Ends, successors_of}
 
 pub landing_ok : (p : Fetched) (g n : ℕ) → landing p g ≡ Ok n → (i : Insn) × (p ≡ Begins i) × (g ≡ n)
@@ -69,34 +68,11 @@ good_jumps code checked k =
 
 -- ---- the loop over the jumps
 
--- no jump before a position is faulty
-pub record ArePassed (code : List Insn) (at : Position) : Type 0 where
-  pub is_at : IsAt code at
-  pub passed : (k : ℕ) → k < at.slot → slot_checked code k ≡ Ok tt
+pub first_faulty : (code : List Insn) (slot : ℕ) → ((k : ℕ) → k < slot → slot_checked code k ≡ Ok tt) → (reason : Reason) → slot_checked code slot ≡ Err reason → IsFirstFaultyJump code reason slot
+first_faulty code slot passed reason bad = record { faulty = bad; first = passed }
 
-pub none_passed : (code : List Insn) → ArePassed code (record { slot = 0; index = 0 })
-none_passed code = record { is_at = at_start code; passed = λ k lt. absurd (nothing_below k lt) }
-
-module _ (code : List Insn) (at : Position) (are : ArePassed code at) (d : Insn) (lt : at.index < length code) where
-  checked_here : slot_checked code at.slot ≡ jump_checked code at.slot (get_or code at.index d)
-  checked_here = ap (fetched_checked code at.slot) (fetch_at code at are.is_at d lt)
-
-  pub passed_next : (next : Position) → IsAt code next → next.index ≡ at.index + 1 → jump_checked code at.slot (get_or code at.index d) ≡ Ok tt → ArePassed code next
-  passed_next next is_next one good = record { is_at = is_next; passed = below } where
-    below : (k : ℕ) → k < next.slot → slot_checked code k ≡ Ok tt
-    below k before = elim (cases_lt k at.slot) [
-      | inl early ↦ are.passed k early
-      | inr late ↦ elim (cases_lt at.slot k) [
-        | inl after ↦ ap (fetched_checked code k) (fetch_before_next code at are.is_at next is_next one lt k after before)
-        | inr no_later ↦ let here : k ≡ at.slot = omega arith in ap (slot_checked code) here ∙ checked_here ∙ good
-      ]
-    ]
-
-  pub first_faulty : (reason : Reason) → jump_checked code at.slot (get_or code at.index d) ≡ Err reason → IsFirstFaultyJump code reason at.slot
-  first_faulty reason bad = record { faulty = checked_here ∙ bad; first = are.passed }
-
-pub all_passed : (code : List Insn) (at : Position) → ArePassed code at → length code ≤ at.index → HasGoodJumps code
-all_passed code at are le = good_jumps code (λ k lt. are.passed k (omega (arith, at_end code at are.is_at le)))
+pub all_passed : (code : List Insn) (most : ℕ) → slot_count code ≤ most → ((k : ℕ) → k < most → slot_checked code k ≡ Ok tt) → HasGoodJumps code
+all_passed code most few passed = good_jumps code (λ k lt. passed k (omega (arith, few, lt)))
 
 pub falls_off : (code : List Insn) → HasGoodJumps code → (EndsInExit code → ⊥) → IsLayoutFault code FallsOffEnd (last_slot code)
 falls_off code jumps no_exit = inr (record { reason_is = refl; slot_is = refl; jumps = jumps; no_exit = no_exit })

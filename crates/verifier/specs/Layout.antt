@@ -3,7 +3,7 @@ use Rattle.std.specs.Prelude.{◌≡◌, ℕ, ◌<◌, ◌⊎◌, ℤ, List, Opt
 use Rattle.insn.specs.declared.instruction.Insn.{Insn}
 use Rattle.insn.specs.declared.instruction.Insn.TheVariants.{Exit}
 use Rattle.basics.specs.Fallible.{◌>>=◌}
-use Rattle.semantics.specs.Slots.{fetch, target, last_slot}
+use Rattle.semantics.specs.Slots.{fetch, fetch_in, target, last_slot}
 use Rattle.semantics.specs.Flow.{flow_of, flow_distance}
 use Rattle.semantics.specs.declared.reason.Reason.{Reason}
 use Rattle.semantics.specs.declared.reason.Reason.TheVariants as reasons
@@ -36,6 +36,10 @@ fetched_checked code slot Past = Ok tt
 -- an instruction that begins at a slot is no faulty jump, or the reason for which it is one
 abbrev pub slot_checked : List Insn → ℕ → Result (Unit {0}) Reason
 slot_checked code slot = fetched_checked code slot (fetch code slot)
+
+-- a list has what is at each slot of a program, and that there is none after the last
+abbrev pub ListsSlots : List Insn → List Fetched → Type 0
+ListsSlots code all = (slot : ℕ) → fetch_in all slot ≡ fetch code slot
 
 -- no jump is faulty
 abbrev pub HasGoodJumps : List Insn → Type 0

@@ -1,14 +1,14 @@
 //! The layout of a program, which is tested before any path is followed.
 
-ghost use Rattle.std.specs.Prelude.{◌≡◌, ◌≤◌, ◌<◌, length, OnOk, IfErr};
-ghost use Rattle.insn.specs.Encoding.{slot_count};
+ghost use Rattle.std.specs.Prelude.{◌≡◌, ◌≤◌, ◌<◌, ◌+◌, ◌++◌, ◌∷◌, [], List, length, OnOk, IfErr};
+ghost use Rattle.insn.specs.Encoding.{slot_count, slots_of};
 ghost use Rattle.insn.specs.declared.decoding.TheConstants.{MAX_SLOTS};
-ghost use Rattle.semantics.specs.Slots.{IsAt};
-ghost use Rattle.verifier.specs.Layout.{distance_of, jump_checked, HasGoodJumps, IsFirstFaultyJump, IsLaidOut, IsLayoutRefusal};
+ghost use Rattle.insn.specs.declared.instruction.Insn.{Insn};
+ghost use Rattle.verifier.specs.Layout.{distance_of, slot_checked, HasGoodJumps, ListsSlots, IsFirstFaultyJump, IsLaidOut, IsLayoutRefusal};
 
 use crate::refusal::Refusal;
-use insn::Insn;
-use semantics::{Fetched, Position, Reason, fetch, last, target};
+use insn::{Insn, MAX_SLOTS};
+use semantics::{Fetched, Reason, fetch, last, target_in};
 
 /// Returns the distance of a jump, `None` for an instruction that is no jump.
 pub fn distance(insn: Insn) -> Option<i32>
@@ -22,39 +22,68 @@ pub fn distance(insn: Insn) -> Option<i32>
     }
 }
 
-/// Tests whether the instruction at a position, if it is a jump, leads to an instruction ahead.
-/// See docs/DECISIONS.md, "A jump back comes first".
-fn check_jump(code: &[Insn], at: Position, insn: Insn) -> Result<(), Reason>
-    requires at { IsAt code.now at }
-    requires few { slot_count code.now ≤ MAX_SLOTS }
-    ensures { result ≡ jump_checked code.now at.slot insn }
+/// Puts the slots of an instruction into a list, from a slot on, and returns the slot after them.
+fn put_slots(slots: &mut [Fetched], at: usize, insn: Insn) -> usize
+    requires { at + slots_of insn ≤ length slots.old }
+    ensures next { result ≡ at + slots_of insn }
+    ensures length { length slots.new ≡ length slots.old }
+    ensures put { (code : List Insn) → slot_count code ≡ at → ListsSlots code slots.old → ListsSlots (code ++ insn ∷ []) slots.new }
 {
+    slots[at] = Fetched::Begins(insn);
+    if insn.slots() == 1 {
+        return at + 1;
+    }
+    slots[at + 1] = Fetched::Inside;
+    at + 2
+}
+
+/// Lists the slots of a program.
+fn list_slots(code: &[Insn]) -> [Fetched; MAX_SLOTS]
+    requires { slot_count code.now ≤ MAX_SLOTS }
+    ensures { ListsSlots code.now result }
+{
+    let mut slots = [Fetched::Past; MAX_SLOTS];
+    let mut at = 0;
+    for insn in code {
+        at = put_slots(&mut slots, at, *insn);
+    }
+    slots
+}
+
+/// Tests whether the instruction that begins at a slot, if one does and it is a jump, leads to an instruction ahead.
+/// See docs/DECISIONS.md, "A jump back comes first".
+fn check_slot(slots: &[Fetched; MAX_SLOTS], slot: usize) -> Result<(), Reason>
+    requires { slot < MAX_SLOTS }
+    ensures { (code : List Insn) → ListsSlots code slots.now → result ≡ slot_checked code slot }
+{
+    let Fetched::Begins(insn) = slots[slot] else {
+        return Ok(());
+    };
     match distance(insn) {
         None => Ok(()),
         Some(offset) => {
-            target(code, at, offset)?;
+            target_in(slots, slot, offset)?;
             Ok(())
         }
     }
 }
 
-/// Tests whether each jump leads to an instruction ahead.
+/// Tests whether each jump leads to an instruction ahead. The slots are listed once, so that a program of jumps takes no longer
+/// than others.
 ///
 /// # Errors
 /// The first faulty jump, in the order of slots.
-#[tactic(auto, using(crate::proofs::Positions::none_passed, crate::proofs::Positions::passed_next, crate::proofs::Positions::first_faulty, crate::proofs::Positions::all_passed))]
+#[tactic(auto, using(crate::proofs::Positions::first_faulty, crate::proofs::Positions::all_passed))]
 fn check_jumps(code: &[Insn]) -> Result<(), Refusal>
     requires { slot_count code.now ≤ MAX_SLOTS }
     ensures ok { OnOk result (HasGoodJumps code.now) }
     ensures err { IfErr result (IsLayoutRefusal code.now) }
 {
-    let mut at = Position { slot: 0, index: 0 };
-    while at.index < code.len() {
-        if let Err(reason) = check_jump(code, at, code[at.index]) {
-            let slot = at.slot;
+    let slots = list_slots(code);
+    for slot in 0..MAX_SLOTS {
+        if let Err(reason) = check_slot(&slots, slot) {
             return Err(Refusal::Stuck { reason, slot });
         }
-        at = at.next(code);
     }
     Ok(())
 }

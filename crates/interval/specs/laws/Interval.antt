@@ -1,9 +1,9 @@
 -- Interface. Intervals are a sound domain, and a precise one.
-use Rattle.std.proofs.Common.{◌≡◌, ℕ, ◌-◌, ◌<◌, ◌^◌, ◌⊎◌, inl, inr, ⊎_elim, true, refl, ap, ◌∙◌, arith}
-use Rattle.std.specs.Prelude.{nat_le, ◌≤◌, ◌&&◌}
-use Rattle.std.proofs.lemmas.Bool.{leb-true, and_parts, cases_lt}
+use Rattle.std.proofs.Common.{◌≡◌, ℕ, ◌-◌, ◌^◌, true, refl, arith}
+use Rattle.std.specs.Prelude.{nat_le, ◌&&◌}
+use Rattle.std.proofs.lemmas.Bool.{leb-true, and_parts}
 use Rattle.interval.specs.declared.domain.Bounds.{Bounds}
-use Rattle.interval.specs.Domains.{span, AreSound, ArePrecise}
+use Rattle.interval.specs.Domains.{LieBetween, AreSound, ArePrecise}
 use Rattle.interval.specs.Intervals.{LiesBetween, interval_ops, contains}
 use Rattle.interval.specs.laws.Interval.Members.{is_member, between}
 use Rattle.interval.specs.laws.Interval.Operators.{alu_sound}
@@ -17,7 +17,7 @@ pub mod Narrow
 pub mod Passing
 
 -- the ends of an interval and of one that it contains, in their order
-ends_in_order : (x y : Bounds) → contains x y ≡ true → (x.lo ≤ y.lo) × (y.lo ≤ y.hi) × (y.hi ≤ x.hi)
+ends_in_order : (x y : Bounds) → contains x y ≡ true → LieBetween x y
 ends_in_order x y e =
     let first = and_parts (nat_le x.lo y.lo) (nat_le y.lo y.hi && nat_le y.hi x.hi) e in
     let rest = and_parts (nat_le y.lo y.hi) (nat_le y.hi x.hi) first.1 in
@@ -27,17 +27,6 @@ covers_member : (x y : Bounds) (n : ℕ) → contains x y ≡ true → LiesBetwe
 covers_member x y n e h =
     let ends = ends_in_order x y e in
     record { word = h.word; above = omega (arith, h.above, ends.0); below = omega (arith, h.below, ends.2) }
-
--- an interval contains itself and intervals whose ends are nearer
-contains_nearer : (x y : Bounds) → contains x y ≡ true → (span y < span x) ⊎ (y ≡ x)
-contains_nearer x y e =
-    let ends = ends_in_order x y e in
-    ⊎_elim inl
-    (λ no_nearer.
-    let lo : y.lo ≡ x.lo = omega (arith, no_nearer, ends.0, ends.1, ends.2) in
-    let hi : y.hi ≡ x.hi = omega (arith, no_nearer, ends.0, ends.1, ends.2) in
-    inr (ap (λ (n : ℕ). record { lo = n; hi = y.hi }) lo ∙ ap (λ (n : ℕ). record { lo = x.lo; hi = n }) hi))
-    (cases_lt (span y) (span x))
 
 pub interval_laws : AreSound interval_ops LiesBetween
 interval_laws = record {
@@ -50,7 +39,7 @@ interval_laws = record {
   unary = λ op x n h. is_member _ _ (unary_sound op x n h);
   refine = λ test w x y m n h k passed. refine_sound x y m n h k w test passed;
   covers = covers_member;
-  covered_nearer = contains_nearer;
+  covered_between = ends_in_order;
 }
 
 pub interval_precise : ArePrecise interval_ops LiesBetween

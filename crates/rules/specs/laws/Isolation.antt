@@ -12,7 +12,7 @@ use Rattle.credentials.specs.TimeLimited.{Account}
 use Rattle.credentials.specs.declared.checking.AuthError.{AuthError}
 use Rattle.control.specs.Control.{Decision, binding, decision, rows_after}
 use Rattle.control.specs.Replies.{reply_to}
-use Rattle.control.specs.Responding.{key_for}
+use Rattle.control.specs.Responding.{time_at, key_for}
 use Rattle.control.specs.declared.config.Config.{Config}
 use Rattle.control.specs.declared.reply.Grant.{Grant}
 use Rattle.control.specs.declared.request.Request.{Request}
@@ -118,7 +118,7 @@ module _ (config : Config) (now : ℕ) (client : Addr) (a b : Rows) (are_a : Are
   abbrev directory_of : Option Allocation → Directory
   directory_of o = record {
     users = users_of config.users.items;
-    limits = option_map (λ secret. record { secret = secret.items; moment = now; held = option_map (λ allocation. allocation.user) o }) config.secret;
+    limits = option_map (λ secret. record { secret = secret.items; time = time_at config now; held = option_map (λ allocation. allocation.user) o }) config.secret;
   }
 
   checked_alike : (p : Parts) → check_of config now client p a ≡ check_of config now client p b

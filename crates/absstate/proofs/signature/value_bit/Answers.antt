@@ -1,4 +1,4 @@
-use Rattle.std.proofs.Common.{◌≡◌, ℕ, ap, ap₂, sym, ◌∙◌, bit_or, rules}
+use Rattle.std.proofs.Common.{◌≡◌, ap, ap₂, sym, ◌∙◌, bit_or, rules}
 use Rattle.std.specs.Int.{w32, cast_unsigned}
 use Rattle.absstate.specs.Signatures.{hashed_bit, value_bit}
 use Rattle.absstate.proofs.signature.value_bit.Goals as goal

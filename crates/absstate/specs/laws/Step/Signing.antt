@@ -1,27 +1,29 @@
 -- Interface. Where one state covers another, its signature is within the other's.
-use Rattle.std.proofs.Common.{◌≡◌, ℕ, suc, pos, ◌+◌, ◌*◌, ◌/◌, ◌-◌, ◌<◌, ◌≤◌, ◌%◌, ◌^◌, ◌⊎◌, inl, inr, ⊎_elim, Bool, true, false, ℤ, List, [], ◌∷◌, take, drop, length, refl, sym, ap, ap₂, ◌∙◌, subst, arith, bit_and, lt-ltb, le-ltb, eq-eqb}
-use Rattle.std.specs.Prelude.{◌==◌, nat_lt, int_le, if◌then◌else◌}
+use Rattle.std.proofs.Common.{◌≡◌, ℕ, suc, pos, ◌+◌, ◌*◌, ◌/◌, ◌-◌, ◌≤◌, ◌%◌, ◌^◌, ⊎_elim, Bool, true, false, ℤ, List, [], ◌∷◌, take, drop, length, refl, sym, ap, ap₂, ◌∙◌, subst, arith, bit_and, lt-ltb, le-leb, eq-eqb}
+use Rattle.std.specs.Prelude.{◌==◌, ◌||◌, nat_lt, nat_le, int_le, if◌then◌else◌}
 use Rattle.std.specs.Int.{w32, w64, rotate_left, cast_unsigned}
 use Rattle.std.specs.Int.Bits.{and_self}
 use Rattle.std.proofs.lemmas.Int.{ints}
 use Rattle.std.proofs.lemmas.Nat.{and_shr}
 use Rattle.std.proofs.lemmas.Bool.{eqb-true, cases_lt, or_left, or_right}
-use Rattle.interval.specs.Domains.{Operations, AreSound, span}
+use Rattle.interval.specs.Domains.{Operations, AreSound, LieBetween}
 use Rattle.interval.specs.declared.domain.Bounds.{Bounds}
 use Rattle.absstate.specs.Covers.{covers_places, proves_less, covers_anchor, covers_value, covers_values, same_int, covers}
 use Rattle.absstate.specs.MarkWords.{words_of, are_within}
-use Rattle.absstate.specs.Signatures.{hashed_bit, number_bit, proved_bit, value_bit, value_bits, mark_bits, precision, precisions, hashed_bounds, bounds_hash, bounds_hashes, lie_within, bits_within, state_signature, lies_within}
+use Rattle.absstate.specs.Signatures.{hashed_bit, number_bit, proved_bit, value_bit, value_bits, marked_with, mark_bits, value_margins, added_margins, margins_of, hashed_bounds, bounds_hash, bounds_hashes, lie_within, state_signature, word_within, marks_within, above_of, margins_within, lies_within}
 use Rattle.absstate.specs.AbstractStates.{proved_from}
 use Rattle.absstate.specs.laws.Step.Covering.{int_same}
 use Rattle.absstate.specs.laws.Step.Links.{links_within, linked_alike}
 use Rattle.absstate.specs.laws.Step.MemoryValues.{first_of_and, rest_of_and, both_true}
 use Rattle.absstate.specs.laws.Step.Packing.{covered_front, covered_rest, values_of}
-use Rattle.absstate.specs.laws.Step.Words.{IsWithin, within_times, within_mod, within_or, nothing_within, same_number, covered_within}
+use Rattle.absstate.specs.laws.Step.Words.{IsWithin, within_times, within_mod, within_and, within_or, nothing_within, same_number, covered_within}
 use Rattle.absstate.specs.declared.abstract_state.Anchor.{Anchor}
 use Rattle.absstate.specs.declared.abstract_state.AbstractValue.{AbstractValue}
 use Rattle.absstate.specs.declared.abstract_state.AbstractValue.TheVariants.{Nothing, Scalar, Ctx, Stack, Data, End}
 use Rattle.absstate.specs.declared.abstract_state.AbsState.{AbsState}
 use Rattle.absstate.specs.declared.abstract_state.TheConstants.{REGISTERS}
+use Rattle.absstate.specs.declared.margins.Margins.{Margins}
+use Rattle.absstate.specs.declared.signature.MarkBits.{MarkBits}
 use Rattle.absstate.specs.declared.signature.StateSignature.{StateSignature}
 
 -- ---- marks
@@ -34,13 +36,24 @@ within_rotated a b k h =
     within_or (a * 2 ^ (k % 64) % 2 ^ 64) (b * 2 ^ (k % 64) % 2 ^ 64) (a / 2 ^ ((64 - k % 64) % 64)) (b / 2 ^ ((64 - k % 64) % 64))
     (within_mod (a * 2 ^ (k % 64)) (b * 2 ^ (k % 64)) 64 (within_times a b (k % 64) h)) (within_shr a b ((64 - k % 64) % 64) h)
 
-marks_within : (index : ℕ) (words others : List ℕ) → length words ≡ length others → are_within words others ≡ true → IsWithin (mark_bits index words) (mark_bits index others)
-marks_within index [] others same e = nothing_within (mark_bits index others)
-marks_within index (w ∷ words) [] same e = absurd (omega (arith, same))
-marks_within index (w ∷ words) (o ∷ others) same e =
-    within_or (rotate_left w64 w (9 * index)) (rotate_left w64 o (9 * index)) (mark_bits (suc index) words) (mark_bits (suc index) others)
+-- each bit for marks is one of others
+record AreBitsWithin (m n : MarkBits) : Type 0 where
+  pub any : IsWithin m.any n.any
+  pub two : IsWithin m.two n.two
+
+marked_within : (w v : ℕ) (m n : MarkBits) → IsWithin w v → AreBitsWithin m n → AreBitsWithin (marked_with w m) (marked_with v n)
+marked_within w v m n word bits = record {
+  any = within_or w v m.any n.any word bits.any;
+  two = within_or (bit_and w m.any) (bit_and v n.any) m.two n.two (within_and w v m.any n.any word bits.any) bits.two;
+}
+
+covered_marks : (index : ℕ) (words others : List ℕ) → length words ≡ length others → are_within words others ≡ true → AreBitsWithin (mark_bits index words) (mark_bits index others)
+covered_marks index [] others same e = record { any = nothing_within (mark_bits index others).any; two = nothing_within (mark_bits index others).two }
+covered_marks index (w ∷ words) [] same e = absurd (omega (arith, same))
+covered_marks index (w ∷ words) (o ∷ others) same e =
+    marked_within (rotate_left w64 w (9 * index)) (rotate_left w64 o (9 * index)) (mark_bits (suc index) words) (mark_bits (suc index) others)
     (within_rotated w o (9 * index) (eqb-true (bit_and w o) w (first_of_and (bit_and w o == w) (are_within words others) e)))
-    (marks_within (suc index) words others (omega (arith, same)) (rest_of_and (bit_and w o == w) (are_within words others) e))
+    (covered_marks (suc index) words others (omega (arith, same)) (rest_of_and (bit_and w o == w) (are_within words others) e))
 
 -- ---- values
 
@@ -67,73 +80,117 @@ proved_within index p q less = by (int_le p (pos 0)) (int_le q (pos 0)) refl ref
   by false false e f = same_within (proved_bit index p) (proved_bit index q) (ap (λ (test : Bool). if test then 0 else hashed_bit index 5 0) (e ∙ sym f))
   by false true e f = let bad : true ≡ false = sym (no_less p q less f) ∙ e in absurd cc
 
--- bounds that are no nearer than bounds of one word are the same
-same_as_one : (x y : Bounds) → (span y < span x) ⊎ (y ≡ x) → x.lo ≡ x.hi → y ≡ x
-same_as_one x y (inl nearer) one = absurd (omega (arith, nearer, one))
-same_as_one x y (inr same) one = same
+-- bounds that lie between bounds of one word are the same
+same_as_one : (x y : Bounds) → LieBetween x y → x.lo ≡ x.hi → y ≡ x
+same_as_one x y between one =
+    let lo : y.lo ≡ x.lo = omega (arith, between.0, between.1, between.2, one) in
+    let hi : y.hi ≡ x.hi = omega (arith, between.0, between.1, between.2, one) in
+    ap₂ (λ (m n : ℕ). record { lo = m; hi = n }) lo hi
 
--- ---- precisions
+-- ---- margins
 
--- less is known, or as much with the same hash of bounds
-abbrev IsRanked : ℕ → ℕ → ℕ → ℕ → Type 0
-IsRanked known hash other other_hash = (known < other) ⊎ ((known ≡ other) × (hash ≡ other_hash))
+-- as much is left out by others, or more, and where it is as much, the hashes are the same
+record AreRanked (m : Margins) (hash : ℕ) (n : Margins) (other : ℕ) : Type 0 where
+  pub first : m.below ≤ m.total
+  pub second : n.below ≤ n.total
+  pub below : m.below ≤ n.below
+  pub above : above_of m ≤ above_of n
+  pub same : m.below ≡ n.below → m.total ≡ n.total → hash ≡ other
 
-no_hash : (x : Bounds) → 2 ^ 64 ≤ span x → hashed_bounds x ≡ 0
-no_hash x wide = ap (λ (test : Bool). if test then (x.lo + x.hi * 13787848793156543929 % 2 ^ 64) % 2 ^ 64 else 0) (le-ltb (span x) (2 ^ 64) wide)
+-- what bounds leave out
+abbrev margins_between : Bounds → Margins
+margins_between x = record { below = x.lo; total = x.lo + (2 ^ 64 - 1 - x.hi) }
 
-number_ranked : (x y : Bounds) → (span y < span x) ⊎ (y ≡ x) → IsRanked (2 ^ 64 - span x) (hashed_bounds x) (2 ^ 64 - span y) (hashed_bounds y)
-number_ranked x y (inr same) = inr (ap (λ (b : Bounds). 2 ^ 64 - span b) (sym same), ap hashed_bounds (sym same))
-number_ranked x y (inl nearer) =
-    ⊎_elim (λ near. inl (omega (arith, nearer, near)))
-    (λ wide.
-    let wider : 2 ^ 64 ≤ span x = omega (arith, nearer, wide) in
-    inr (omega (arith, wide, wider), no_hash x wider ∙ sym (no_hash y wide)))
-    (cases_lt (span y) (2 ^ 64))
+number_ranked : (x y : Bounds) → LieBetween x y → AreRanked (margins_between x) (hashed_bounds x) (margins_between y) (hashed_bounds y)
+number_ranked x y between = record {
+  first = omega arith;
+  second = omega arith;
+  below = between.0;
+  above = omega (arith, between.2);
+  same = λ below total.
+      let above : 2 ^ 64 - 1 - x.hi ≡ 2 ^ 64 - 1 - y.hi = omega (arith, below, total) in
+      ap₂ (λ (m n : ℕ). (m + n * 13787848793156543929 % 2 ^ 64) % 2 ^ 64) below above;
+}
 
--- of nothing less is known than of any value, whose bounds have no hash where nothing is known of it
-nothing_ranked : (known hash : ℕ) → (known ≡ 0 → hash ≡ 0) → IsRanked 0 0 known hash
-nothing_ranked known hash none = ⊎_elim inl (λ zero_known. let is : known ≡ 0 = omega (arith, zero_known) in inr (sym is, sym (none is))) (cases_lt 0 known)
+-- a pointer leaves out all words
+abbrev every_word : Margins
+every_word = record { below = 2 ^ 64; total = 2 * 2 ^ 64 }
 
-number_without_hash : (x : Bounds) → 2 ^ 64 - span x ≡ 0 → hashed_bounds x ≡ 0
-number_without_hash x none = no_hash x (omega (arith, none))
+known_ranked : AreRanked every_word 0 every_word 0
+known_ranked = record { first = omega arith; second = omega arith; below = omega arith; above = omega arith; same = λ below total. refl }
+
+-- nothing leaves out less than any values, whose numbers have no hash where they leave out nothing
+nothing_ranked : (n : Margins) (hash : ℕ) → n.below ≤ n.total → (n.total ≡ 0 → hash ≡ 0) → AreRanked (record { below = 0; total = 0 }) 0 n hash
+nothing_ranked n hash small none = record { first = omega arith; second = small; below = omega arith; above = omega arith; same = λ below total. sym (none (sym total)) }
 
 module _ {D : Type 0} (ops : Operations D) where
-  without_hash : (v : AbstractValue D) → precision ops v ≡ 0 → bounds_hash ops v ≡ 0
-  without_hash Nothing none = refl
-  without_hash (Scalar x) none = number_without_hash (ops.bounds x) none
-  without_hash Ctx none = refl
-  without_hash (Stack k) none = refl
-  without_hash (Data anchor k) none = refl
-  without_hash End none = refl
+  below_total : (v : AbstractValue D) → (value_margins ops v).below ≤ (value_margins ops v).total
+  below_total Nothing = omega arith
+  below_total (Scalar x) = omega arith
+  below_total Ctx = omega arith
+  below_total (Stack k) = omega arith
+  below_total (Data anchor k) = omega arith
+  below_total End = omega arith
 
-  all_without_hash : (values : List (AbstractValue D)) → precisions ops values ≡ 0 → bounds_hashes ops values ≡ 0
+  all_below_total : (values : List (AbstractValue D)) → (margins_of ops values).below ≤ (margins_of ops values).total
+  all_below_total [] = omega arith
+  all_below_total (v ∷ values) = omega (arith, below_total v, all_below_total values)
+
+  without_hash : (v : AbstractValue D) → (value_margins ops v).total ≡ 0 → bounds_hash ops v ≡ 0
+  without_hash (Scalar x) none =
+      let below : (ops.bounds x).lo ≡ 0 = omega (arith, none) in
+      let above : 2 ^ 64 - 1 - (ops.bounds x).hi ≡ 0 = omega (arith, none) in
+      ap₂ (λ (m n : ℕ). (m + n * 13787848793156543929 % 2 ^ 64) % 2 ^ 64) below above
+  without_hash v none = refl
+
+  all_without_hash : (values : List (AbstractValue D)) → (margins_of ops values).total ≡ 0 → bounds_hashes ops values ≡ 0
   all_without_hash [] none = refl
   all_without_hash (v ∷ values) none =
       let first : bounds_hash ops v ≡ 0 = without_hash v (omega (arith, none)) in
       let rest : bounds_hashes ops values ≡ 0 = all_without_hash values (omega (arith, none)) in
       ap₂ (λ (m n : ℕ). (m + n * 11400714819323198485 % 2 ^ 64) % 2 ^ 64) first rest
 
-  both_ranked : (v u : AbstractValue D) (vs us : List (AbstractValue D)) → IsRanked (precision ops v) (bounds_hash ops v) (precision ops u) (bounds_hash ops u)
-      → IsRanked (precisions ops vs) (bounds_hashes ops vs) (precisions ops us) (bounds_hashes ops us) → IsRanked (precisions ops (v ∷ vs)) (bounds_hashes ops (v ∷ vs)) (precisions ops (u ∷ us)) (bounds_hashes ops (u ∷ us))
-  both_ranked v u vs us (inl less) (inl fewer) = inl (omega (arith, less, fewer))
-  both_ranked v u vs us (inl less) (inr same) = inl (omega (arith, less, same.0))
-  both_ranked v u vs us (inr same) (inl fewer) = inl (omega (arith, same.0, fewer))
-  both_ranked v u vs us (inr first) (inr rest) = inr (omega (arith, first.0, rest.0), ap₂ (λ (m n : ℕ). (m + n * 11400714819323198485 % 2 ^ 64) % 2 ^ 64) first.1 rest.1)
+both_ranked : (m n m' n' : Margins) (hash other rest rest' : ℕ) → AreRanked m hash n other → AreRanked m' rest n' rest'
+    → AreRanked (added_margins m m') ((hash + rest * 11400714819323198485 % 2 ^ 64) % 2 ^ 64) (added_margins n n') ((other + rest' * 11400714819323198485 % 2 ^ 64) % 2 ^ 64)
+both_ranked m n m' n' hash other rest rest' one more = record {
+  first = omega (arith, one.first, more.first);
+  second = omega (arith, one.second, more.second);
+  below = omega (arith, one.below, more.below);
+  above = omega (arith, one.above, more.above, one.first, one.second, more.first, more.second);
+  same = λ below total. ap₂ (λ (i j : ℕ). (i + j * 11400714819323198485 % 2 ^ 64) % 2 ^ 64)
+      (one.same (omega (arith, below, one.below, more.below))
+      (omega (arith, below, total, one.below, more.below, one.above, more.above, one.first, one.second, more.first, more.second)))
+      (more.same (omega (arith, below, one.below, more.below))
+      (omega (arith, below, total, one.below, more.below, one.above, more.above, one.first, one.second, more.first, more.second)));
+}
 
--- a signature is within another one by its parts
-bits_by_parts : (s t : StateSignature) → IsWithin s.registers t.registers → IsWithin s.groups t.groups → IsWithin s.marks t.marks → bits_within s t ≡ true
-bits_by_parts s t registers groups marks =
-    both_true (bit_and s.registers t.registers == s.registers) _ (same_number (bit_and s.registers t.registers) s.registers registers)
-    (both_true (bit_and s.groups t.groups == s.groups) _ (same_number (bit_and s.groups t.groups) s.groups groups)
-    (same_number (bit_and s.marks t.marks) s.marks marks))
+-- ---- a signature is within another one by its parts
 
-within_by_parts : (s t : StateSignature) → bits_within s t ≡ true → IsRanked s.precisions s.bounds t.precisions t.bounds → lie_within s.links t.links ≡ true → lies_within s t ≡ true
-within_by_parts s t bits ranked links =
-    both_true (bits_within s t) _ bits
-    (both_true _ (lie_within s.links t.links)
-    (⊎_elim (λ less. or_left (nat_lt s.precisions t.precisions) (s.bounds == t.bounds) (lt-ltb s.precisions t.precisions less))
-    (λ same. or_right (nat_lt s.precisions t.precisions) (s.bounds == t.bounds) (eq-eqb s.bounds t.bounds same.1))
-    ranked) links)
+ranked_test : (m n : Margins) (hash other : ℕ) → AreRanked m hash n other → ((hash == other) || nat_lt m.total n.total) ≡ true
+ranked_test m n hash other ranked =
+    ⊎_elim (λ less. or_right (hash == other) (nat_lt m.total n.total) (lt-ltb m.total n.total less))
+    (λ not_less. or_left (hash == other) (nat_lt m.total n.total)
+    (eq-eqb hash other (ranked.same (omega (arith, not_less, ranked.first, ranked.second, ranked.below, ranked.above))
+    (omega (arith, not_less, ranked.first, ranked.second, ranked.below, ranked.above)))))
+    (cases_lt m.total n.total)
+
+module _ (s t : StateSignature) where
+  abbrev ranked_alike : Bool
+  ranked_alike = (s.bounds == t.bounds) || nat_lt s.margins.total t.margins.total
+
+  within_by_parts : IsWithin s.registers t.registers → IsWithin s.groups t.groups → AreBitsWithin s.marks t.marks → AreRanked s.margins s.bounds t.margins t.bounds
+      → lie_within s.links t.links ≡ true → lies_within s t ≡ true
+  within_by_parts registers groups marks ranked links =
+      both_true (word_within s.registers t.registers) _ (same_number (bit_and s.registers t.registers) s.registers registers)
+      (both_true (word_within s.groups t.groups) _ (same_number (bit_and s.groups t.groups) s.groups groups)
+      (both_true (margins_within s.margins t.margins) _
+      (both_true (nat_le s.margins.below t.margins.below) (nat_le (above_of s.margins) (above_of t.margins))
+      (le-leb s.margins.below t.margins.below ranked.below) (le-leb (above_of s.margins) (above_of t.margins) ranked.above))
+      (both_true ranked_alike _ (ranked_test s.margins t.margins s.bounds t.bounds ranked)
+      (both_true (marks_within s.marks t.marks) (lie_within s.links t.links)
+      (both_true (word_within s.marks.any t.marks.any) (word_within s.marks.two t.marks.two)
+      (same_number (bit_and s.marks.any t.marks.any) s.marks.any marks.any) (same_number (bit_and s.marks.two t.marks.two) s.marks.two marks.two))
+      links))))
 
 module _ {D : Type 0} (ops : Operations D) (Member : D → ℕ → Type 0) (sound : AreSound ops Member) (a b : AbsState D) where
   places_within : (index : ℕ) (x y : Anchor) (k l : ℤ) → covers_value ops a b (Data x k) (Data y l) ≡ true → IsWithin (value_bit ops index a.proved (Data x k)) (value_bit ops index b.proved (Data y l))
@@ -145,7 +202,7 @@ module _ {D : Type 0} (ops : Operations D) (Member : D → ℕ → Type 0) (soun
 
   value_within : (index : ℕ) (v u : AbstractValue D) → covers_value ops a b v u ≡ true → IsWithin (value_bit ops index a.proved v) (value_bit ops index b.proved u)
   value_within index Nothing u e = nothing_within (value_bit ops index b.proved u)
-  value_within index (Scalar x) (Scalar y) e = number_within index (ops.bounds x) (ops.bounds y) (same_as_one (ops.bounds x) (ops.bounds y) (sound.covered_nearer x y e))
+  value_within index (Scalar x) (Scalar y) e = number_within index (ops.bounds x) (ops.bounds y) (same_as_one (ops.bounds x) (ops.bounds y) (sound.covered_between x y e))
   value_within index Ctx Ctx e = same_within (hashed_bit index 1 0) (hashed_bit index 1 0) refl
   value_within index (Stack k) (Stack l) e = let place : ℤ → ℕ = λ n. hashed_bit index 2 (cast_unsigned w32 n) in same_within (place k) (place l) (ap place (int_same k l e))
   value_within index (Data x k) (Data y l) e = places_within index x y k l e
@@ -160,20 +217,21 @@ module _ {D : Type 0} (ops : Operations D) (Member : D → ℕ → Type 0) (soun
       (value_within index v u (first_of_and (covers_value ops a b v u) (covers_values ops a b vs us) e))
       (values_within (suc index) vs us (rest_of_and (covers_value ops a b v u) (covers_values ops a b vs us) e))
 
-  value_ranked : (v u : AbstractValue D) → covers_value ops a b v u ≡ true → IsRanked (precision ops v) (bounds_hash ops v) (precision ops u) (bounds_hash ops u)
-  value_ranked Nothing u e = nothing_ranked (precision ops u) (bounds_hash ops u) (without_hash ops u)
-  value_ranked (Scalar x) (Scalar y) e = number_ranked (ops.bounds x) (ops.bounds y) (sound.covered_nearer x y e)
-  value_ranked Ctx Ctx e = inr (refl, refl)
-  value_ranked (Stack k) (Stack l) e = inr (refl, refl)
-  value_ranked (Data x k) (Data y l) e = inr (refl, refl)
-  value_ranked End End e = inr (refl, refl)
+  value_ranked : (v u : AbstractValue D) → covers_value ops a b v u ≡ true → AreRanked (value_margins ops v) (bounds_hash ops v) (value_margins ops u) (bounds_hash ops u)
+  value_ranked Nothing u e = nothing_ranked (value_margins ops u) (bounds_hash ops u) (below_total ops u) (without_hash ops u)
+  value_ranked (Scalar x) (Scalar y) e = number_ranked (ops.bounds x) (ops.bounds y) (sound.covered_between x y e)
+  value_ranked Ctx Ctx e = known_ranked
+  value_ranked (Stack k) (Stack l) e = known_ranked
+  value_ranked (Data x k) (Data y l) e = known_ranked
+  value_ranked End End e = known_ranked
   value_ranked v u e = absurd cc
 
-  values_ranked : (vs us : List (AbstractValue D)) → covers_values ops a b vs us ≡ true → IsRanked (precisions ops vs) (bounds_hashes ops vs) (precisions ops us) (bounds_hashes ops us)
-  values_ranked [] us e = nothing_ranked (precisions ops us) (bounds_hashes ops us) (all_without_hash ops us)
+  values_ranked : (vs us : List (AbstractValue D)) → covers_values ops a b vs us ≡ true → AreRanked (margins_of ops vs) (bounds_hashes ops vs) (margins_of ops us) (bounds_hashes ops us)
+  values_ranked [] us e = nothing_ranked (margins_of ops us) (bounds_hashes ops us) (all_below_total ops us) (all_without_hash ops us)
   values_ranked (v ∷ vs) [] e = absurd cc
   values_ranked (v ∷ vs) (u ∷ us) e =
-      both_ranked ops v u vs us (value_ranked v u (first_of_and (covers_value ops a b v u) (covers_values ops a b vs us) e))
+      both_ranked (value_margins ops v) (value_margins ops u) (margins_of ops vs) (margins_of ops us) (bounds_hash ops v) (bounds_hash ops u) (bounds_hashes ops vs) (bounds_hashes ops us)
+      (value_ranked v u (first_of_and (covers_value ops a b v u) (covers_values ops a b vs us) e))
       (values_ranked vs us (rest_of_and (covers_value ops a b v u) (covers_values ops a b vs us) e))
 
   -- where one state covers another, its signature is within the other's
@@ -181,8 +239,7 @@ module _ {D : Type 0} (ops : Operations D) (Member : D → ℕ → Type 0) (soun
   covered_signature e =
       let values = values_of ops a b e in
       within_by_parts (state_signature ops a) (state_signature ops b)
-      (bits_by_parts (state_signature ops a) (state_signature ops b)
       (values_within 0 (take REGISTERS a.registers) (take REGISTERS b.registers) (covered_front ops a b REGISTERS a.registers b.registers values))
       (values_within REGISTERS (drop REGISTERS a.registers) (drop REGISTERS b.registers) (covered_rest ops a b REGISTERS a.registers b.registers values))
-      (marks_within 0 (words_of a.marks.cells) (words_of b.marks.cells) refl (covered_within ops a b e)))
+      (covered_marks 0 (words_of a.marks.cells) (words_of b.marks.cells) refl (covered_within ops a b e))
       (values_ranked a.registers b.registers values) (links_within a.registers b.registers (linked_alike ops a b e))

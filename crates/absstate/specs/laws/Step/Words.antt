@@ -1,5 +1,5 @@
 -- Interface. Marks and their words: where one state covers another, each word of its marks has no bits but those of the other's.
-use Rattle.std.proofs.Common.{◌≡◌, ℕ, zero, suc, ◌+◌, ◌*◌, ◌/◌, ◌%◌, ◌^◌, ◌<◌, ◌≤◌, Bool, true, false, not, ◌&&◌, ◌||◌, List, [], ◌∷◌, ◌++◌, length, map, take, drop, refl, sym, ap, ◌∙◌, subst, arith, rules, bit_and, bit_or, pow_pos}
+use Rattle.std.proofs.Common.{◌≡◌, ℕ, zero, suc, ◌+◌, ◌*◌, ◌/◌, ◌%◌, ◌^◌, ◌<◌, ◌≤◌, Bool, true, false, not, ◌&&◌, ◌||◌, List, [], ◌∷◌, ◌++◌, length, map, take, drop, refl, sym, ap, ap₂, ◌∙◌, subst, arith, rules, bit_and, bit_or, pow_pos}
 use Rattle.std.specs.Prelude.{◌==◌, min, max, int_le}
 use Rattle.std.specs.Int.{bit_at}
 use Rattle.std.proofs.lemmas.Nat.{and_block, or_block, and_le_l, and_mod}
@@ -31,16 +31,29 @@ within_times a b k h =
 pub within_mod : (a b k : ℕ) → IsWithin a b → IsWithin (a % 2 ^ k) (b % 2 ^ k)
 within_mod a b k h = sym (and_mod a b k) ∙ ap (λ (x : ℕ). x % 2 ^ k) h
 
-least : (x y u v : ℕ) → min x u ≡ x → min y v ≡ y → min (max x y) (max u v) ≡ max x y
-least x y u v p q = omega (arith, p, q)
+-- ---- by bits
+
+pub each_bit : (a b : ℕ) → IsWithin a b → (i : ℕ) → min (bit_at a i) (bit_at b i) ≡ bit_at a i
+each_bit a b within i = sym (bit_at_and a b i) ∙ ap (λ (x : ℕ). bit_at x i) within
+
+pub by_bits : (a b : ℕ) → ((i : ℕ) → min (bit_at a i) (bit_at b i) ≡ bit_at a i) → IsWithin a b
+by_bits a b each = same_from_bits (bit_and a b) a (λ i. bit_at_and a b i ∙ each i)
+
+greatest : (x y u v : ℕ) → min x u ≡ x → min y v ≡ y → min (max x y) (max u v) ≡ max x y
+greatest x y u v p q = omega (arith, p, q)
 
 pub within_or : (a b c d : ℕ) → IsWithin a b → IsWithin c d → IsWithin (bit_or a c) (bit_or b d)
-within_or a b c d h k = same_from_bits (bit_and (bit_or a c) (bit_or b d)) (bit_or a c) (λ i.
-    bit_at_and (bit_or a c) (bit_or b d) i
-    ∙ ap (λ (x : ℕ). min x (bit_at (bit_or b d) i)) (bit_at_or a c i)
-    ∙ ap (λ (x : ℕ). min (max (bit_at a i) (bit_at c i)) x) (bit_at_or b d i)
-    ∙ least (bit_at a i) (bit_at c i) (bit_at b i) (bit_at d i) (sym (bit_at_and a b i) ∙ ap (λ (x : ℕ). bit_at x i) h) (sym (bit_at_and c d i) ∙ ap (λ (x : ℕ). bit_at x i) k)
-    ∙ sym (bit_at_or a c i))
+within_or a b c d h k = by_bits (bit_or a c) (bit_or b d) (λ i.
+    ap₂ min (bit_at_or a c i) (bit_at_or b d i) ∙ greatest (bit_at a i) (bit_at c i) (bit_at b i) (bit_at d i) (each_bit a b h i) (each_bit c d k i) ∙ sym (bit_at_or a c i))
+
+least : (x y u v : ℕ) → min x u ≡ x → min y v ≡ y → min (min x y) (min u v) ≡ min x y
+least x y u v p q = omega (arith, p, q)
+
+pub within_and : (a b c d : ℕ) → IsWithin a b → IsWithin c d → IsWithin (bit_and a c) (bit_and b d)
+within_and a b c d h k = by_bits (bit_and a c) (bit_and b d) (λ i.
+    ap₂ min (bit_at_and a c i) (bit_at_and b d i) ∙ least (bit_at a i) (bit_at c i) (bit_at b i) (bit_at d i) (each_bit a b h i) (each_bit c d k i) ∙ sym (bit_at_and a c i))
+
+-- ---- a word of marks
 
 within_bit : (m o : Bool) → (not m || o) ≡ true → IsWithin (bit_of m) (bit_of o)
 within_bit true true e = refl

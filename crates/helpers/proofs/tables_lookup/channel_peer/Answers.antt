@@ -13,5 +13,5 @@ no_peer slot number held is large = elim (bound_peer number held) as (λ o. boun
   | Some peer ↦ λ e. absurd (large (omega (arith, (bound_peer-number slot number held peer is e).1)))
 ] refl
 
-pub returns-in_default : goal.returns-in_default
-returns-in_default c = ap (peer_answer c.args.form) (no_peer c.args.slot.now.allocation.slot c.args.number c.args.slot.now c.law_is_well_formed.ensures c.in_default.ensures)
+pub returns-in_default-clause-answer : goal.returns-in_default-clause-answer
+returns-in_default-clause-answer g c = ap (peer_answer c.args.form) (no_peer c.args.slot.now.allocation.slot c.args.number c.args.slot.now c.law_is_well_formed.ensures c.in_default.ensures)

@@ -11,66 +11,66 @@ use Rattle.relay.proofs.found.window_found.Goals as goal
 
 -- ---- where the data of a client may not go to the peer
 
-stopped : (c : goal.Then-not-may_go) (r : RelayContents) → AreWellFormed (rows_at r.greatest r.rows)
+stopped : (g : _) (c : goal.Then-not-may_go g) (r : RelayContents) → AreWellFormed (rows_at r.greatest r.rows)
     → c.args.live.now ≡ held_for c.args.from.now (rows_at r.greatest r.rows) → IsFoundAs (asked c.args.asks c.args.confinement.now) r c.args.from.now c.args.destination found.Stopped
-stopped c r formed is =
+stopped g c r formed is =
     let family : is_of_family c.in-Some.live.allocation.family c.in-Some-destination.peer ≡ true =
     ap (λ (a : Allocation). is_of_family a.family c.in-Some-destination.peer) (sym c.allocation-allocation.ensures)
     ∙ sym c.is_of_family.ensures ∙ c.if-not-is_of_family.false in
     client_stopped (asked c.args.asks c.args.confinement.now) r c.args.from.now c.args.destination c.args.live.now formed is c.in-Some.live c.in-Some.is
     c.in-Client.field-0 c.in-Client.is c.in-Some-destination.peer c.in-Some-destination.is family
-    (sym c.may_go.ensures ∙ c.if-not-may_go.true)
+    (sym c.may_go.ensures.may ∙ c.if-not-may_go.true)
 
 pub returns-then-not-may_go-clause-sends : goal.returns-then-not-may_go-clause-sends
-returns-then-not-may_go-clause-sends c = λ r formed is. (stopped c r formed is).sends
+returns-then-not-may_go-clause-sends g c = λ r formed is. (stopped g c r formed is).sends
 
 pub returns-then-not-may_go-clause-disposition : goal.returns-then-not-may_go-clause-disposition
-returns-then-not-may_go-clause-disposition c = λ r formed is. (stopped c r formed is).disposition
+returns-then-not-may_go-clause-disposition g c = λ r formed is. (stopped g c r formed is).disposition
 
 -- ---- where it may
 
-sent : (c : goal.Else-not-may_go) (r : RelayContents) → AreWellFormed (rows_at r.greatest r.rows)
+sent : (g : _) (c : goal.Else-not-may_go g) (r : RelayContents) → AreWellFormed (rows_at r.greatest r.rows)
     → c.args.live.now ≡ held_for c.args.from.now (rows_at r.greatest r.rows)
     → IsFoundAs (asked c.args.asks c.args.confinement.now) r c.args.from.now c.args.destination (found.WindowToPeer c.allocation-allocation.result.now.slot c.in-Some-destination.peer)
-sent c r formed is =
+sent g c r formed is =
     let family : is_of_family c.in-Some.live.allocation.family c.in-Some-destination.peer ≡ true =
     ap (λ (a : Allocation). is_of_family a.family c.in-Some-destination.peer) (sym c.allocation-allocation.ensures)
     ∙ sym c.is_of_family.ensures ∙ c.if-not-is_of_family.false in
     client_sends (asked c.args.asks c.args.confinement.now) r c.args.from.now c.args.destination c.args.live.now formed is c.in-Some.live c.in-Some.is
     c.in-Client.field-0 c.in-Client.is c.in-Some-destination.peer c.in-Some-destination.is family
     c.allocation-allocation.result.now.slot (ap (λ (a : Allocation). a.slot) c.allocation-allocation.ensures)
-    (sym c.may_go.ensures ∙ c.if-not-may_go.false)
+    (sym c.may_go.ensures.may ∙ c.if-not-may_go.false)
 
 pub returns-else-not-may_go-clause-sends : goal.returns-else-not-may_go-clause-sends
-returns-else-not-may_go-clause-sends c = λ r formed is. (sent c r formed is).sends
+returns-else-not-may_go-clause-sends g c = λ r formed is. (sent g c r formed is).sends
 
 pub returns-else-not-may_go-clause-disposition : goal.returns-else-not-may_go-clause-disposition
-returns-else-not-may_go-clause-disposition c = λ r formed is. (sent c r formed is).disposition
+returns-else-not-may_go-clause-disposition g c = λ r formed is. (sent g c r formed is).disposition
 
 -- ---- where the data of a peer may not come to the client
 
-kept_out : (c : goal.Then-not-may_come) (r : RelayContents) → AreWellFormed (rows_at r.greatest r.rows)
+kept_out : (g : _) (c : goal.Then-not-may_come g) (r : RelayContents) → AreWellFormed (rows_at r.greatest r.rows)
     → c.args.live.now ≡ held_for c.args.from.now (rows_at r.greatest r.rows) → IsFoundAs (asked c.args.asks c.args.confinement.now) r c.args.from.now c.args.destination found.Stopped
-kept_out c r formed is =
+kept_out g c r formed is =
     peer_stopped (asked c.args.asks c.args.confinement.now) r c.args.from.now c.args.destination c.args.live.now formed is c.in-Some.live c.in-Some.is
-    c.in-Peer.slot c.in-Peer.addr c.in-Peer.is (sym c.may_come.ensures ∙ c.if-not-may_come.true)
+    c.in-Peer.slot c.in-Peer.addr c.in-Peer.is (sym c.may_come.ensures.may ∙ c.if-not-may_come.true)
 
 pub returns-then-not-may_come-clause-sends : goal.returns-then-not-may_come-clause-sends
-returns-then-not-may_come-clause-sends c = λ r formed is. (kept_out c r formed is).sends
+returns-then-not-may_come-clause-sends g c = λ r formed is. (kept_out g c r formed is).sends
 
 pub returns-then-not-may_come-clause-disposition : goal.returns-then-not-may_come-clause-disposition
-returns-then-not-may_come-clause-disposition c = λ r formed is. (kept_out c r formed is).disposition
+returns-then-not-may_come-clause-disposition g c = λ r formed is. (kept_out g c r formed is).disposition
 
 -- ---- where it may
 
 pub returns-else-not-may_come-clause-sends : goal.returns-else-not-may_come-clause-sends
-returns-else-not-may_come-clause-sends c = λ r formed is.
+returns-else-not-may_come-clause-sends g c = λ r formed is.
     (peer_sends (asked c.args.asks c.args.confinement.now) r c.args.from.now c.args.destination c.args.live.now formed is c.in-Some.live c.in-Some.is
     c.in-Peer.slot c.in-Peer.addr c.in-Peer.is _ (ap (λ (a : Allocation). a.client) c.allocation-allocation.ensures)
-    (sym c.may_come.ensures ∙ c.if-not-may_come.false)).sends
+    (sym c.may_come.ensures.may ∙ c.if-not-may_come.false)).sends
 
 pub returns-else-not-may_come-clause-disposition : goal.returns-else-not-may_come-clause-disposition
-returns-else-not-may_come-clause-disposition c = λ r formed is.
+returns-else-not-may_come-clause-disposition g c = λ r formed is.
     (peer_sends (asked c.args.asks c.args.confinement.now) r c.args.from.now c.args.destination c.args.live.now formed is c.in-Some.live c.in-Some.is
     c.in-Peer.slot c.in-Peer.addr c.in-Peer.is _ (ap (λ (a : Allocation). a.client) c.allocation-allocation.ensures)
-    (sym c.may_come.ensures ∙ c.if-not-may_come.false)).disposition
+    (sym c.may_come.ensures.may ∙ c.if-not-may_come.false)).disposition

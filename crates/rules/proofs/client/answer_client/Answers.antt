@@ -11,32 +11,32 @@ use Rattle.rules.specs.Systems.{SystemReply}
 use Rattle.rules.proofs.Controls.{control_is, response_is}
 use Rattle.rules.proofs.client.answer_client.Goals as goal
 
-stun : (c : goal.After-reply_of) → begins_as_stun c.args.datagram.now ≡ true
-stun c = search rules
+stun : (g : _) (c : goal.After-reply_of g) → begins_as_stun c.args.datagram.now ≡ true
+stun g c = search rules
 
-is_message : (c : goal.After-reply_of) → message_in c.args.datagram.now ≡ Some c.in-Ok.message
-is_message c = search rules
+is_message : (g : _) (c : goal.After-reply_of g) → message_in c.args.datagram.now ≡ Some c.in-Ok.message
+is_message g c = search rules
 
-other : (c : goal.After-reply_of) → (c.in-Ok.message.kind == send_indication) ≡ false
-other c = search rules
+other : (g : _) (c : goal.After-reply_of g) → (c.in-Ok.message.kind == send_indication) ≡ false
+other g c = search rules
 
 -- what the rules answer is the reply, and the rows are those of the tables
-handled : (c : goal.After-reply_of) → from_client c.args.config.now c.args.moment c.args.client c.args.tables.now c.args.datagram.now
+handled : (g : _) (c : goal.After-reply_of g) → from_client c.args.config.now c.args.moment c.args.client c.args.tables.now c.args.datagram.now
     ≡ record { answer = reply_sent c.args.client (take (count_of c.respond.result) c.respond.new.out); rows = c.respond.new.tables }
-handled c =
-    is_handled c.args.config.now c.args.moment c.args.client c.args.tables.now c.args.datagram.now c.in-Ok.message (stun c) (is_message c) (other c)
+handled g c =
+    is_handled c.args.config.now c.args.moment c.args.client c.args.tables.now c.args.datagram.now c.in-Ok.message (stun g c) (is_message g c) (other g c)
     ∙ control_is c.law_results_are_checked.ensures _ _ _ _ _ _ _ _ c.requires.ipv4 c.respond.ensures.responds
 
 pub returns-clause-answer : goal.returns-clause-answer
-returns-clause-answer c =
+returns-clause-answer g c =
     c.reply_of.ensures.sends c.args.client c.args.datagram.now c.respond.new.out
-    ∙ sym (ap (λ (r : SystemReply). r.answer) (handled c))
+    ∙ sym (ap (λ (r : SystemReply). r.answer) (handled g c))
 
 pub returns-clause-rows : goal.returns-clause-rows
-returns-clause-rows c = sym (ap (λ (r : SystemReply). r.rows) (handled c))
+returns-clause-rows g c = sym (ap (λ (r : SystemReply). r.rows) (handled g c))
 
 pub returns-clause-disposition : goal.returns-clause-disposition
-returns-clause-disposition c =
+returns-clause-disposition g c =
     c.reply_of.ensures.disposition
     ∙ response_is c.law_results_are_checked.ensures _ _ _ _ _ _ _ _ c.requires.ipv4 c.respond.ensures.responds
-    ∙ sym (disposition_is_handled c.args.config.now c.args.moment c.args.client c.args.tables.now c.args.datagram.now c.in-Ok.message (stun c) (is_message c) (other c))
+    ∙ sym (disposition_is_handled c.args.config.now c.args.moment c.args.client c.args.tables.now c.args.datagram.now c.in-Ok.message (stun g c) (is_message g c) (other g c))

@@ -1,9 +1,6 @@
-use Rattle.std.proofs.Common.{◌-◌, length}
-use Rattle.verifier.proofs.Positions.{ArePassed}
+use Rattle.std.proofs.Common.{◌≡◌, ℕ, ◌<◌, Ok}
+use Rattle.verifier.specs.Layout.{slot_checked}
 use Rattle.verifier.proofs.layout.check_jumps.Given as goal
 
-abbrev pub invariant-loop-at : goal.invariant-loop-at
-invariant-loop-at l = ArePassed l.code l.at
-
-abbrev pub decreases-loop-at : goal.decreases-loop-at
-decreases-loop-at l = length l.code - l.at.index
+abbrev pub invariant-loop-slot : goal.invariant-loop-slot
+invariant-loop-slot l = (k : ℕ) → k < l.slot → slot_checked l.code k ≡ Ok tt

@@ -1,17 +1,19 @@
 use Rattle.std.proofs.Common.{◌≡◌, ap, ◌∙◌, ℕ, List, length, take, drop, refl}
-use Rattle.absstate.specs.Signatures.{links_among, state_links, mark_bits, value_bits, bounds_hashes, precisions}
+use Rattle.absstate.specs.Signatures.{links_among, state_links, mark_bits, margins_of, value_bits, bounds_hashes}
 use Rattle.absstate.specs.declared.abstract_state.TheConstants.{REGISTERS, VALUES}
 use Rattle.absstate.specs.declared.abstract_state.AbstractValue.{AbstractValue}
 use Rattle.absstate.specs.declared.links.Links.{Links}
+use Rattle.absstate.specs.declared.margins.Margins.{Margins}
+use Rattle.absstate.specs.declared.signature.MarkBits.{MarkBits}
 use Rattle.absstate.specs.declared.signature.StateSignature.{StateSignature}
 use Rattle.absstate.proofs.abstract_state.AbsState.signature.Goals as goal
 
 -- signatures of the same parts
-abbrev made : ℕ → ℕ → ℕ → ℕ → ℕ → Links → StateSignature
-made r g m b p l = record { registers = r; groups = g; marks = m; bounds = b; precisions = p; links = l }
+abbrev made : ℕ → ℕ → MarkBits → Margins → ℕ → Links → StateSignature
+made r g m w b l = record { registers = r; groups = g; marks = m; margins = w; bounds = b; links = l }
 
-of_parts : {r r' g g' m m' b b' p p' : ℕ} {l l' : Links} → r ≡ r' → g ≡ g' → m ≡ m' → b ≡ b' → p ≡ p' → l ≡ l' → made r g m b p l ≡ made r' g' m' b' p' l'
-of_parts r g m b p l = rw (r, g, m, b, p, l) refl
+of_parts : {r r' g g' b b' : ℕ} {m m' : MarkBits} {w w' : Margins} {l l' : Links} → r ≡ r' → g ≡ g' → m ≡ m' → w ≡ w' → b ≡ b' → l ≡ l' → made r g m w b l ≡ made r' g' m' w' b' l'
+of_parts r g m w b l = rw (r, g, m, w, b, l) refl
 
 -- the links of all values
 all_links : {D : Type 0} (values : List (AbstractValue D)) (n : ℕ) → n ≡ VALUES → links_among values n ≡ state_links values
@@ -26,6 +28,6 @@ returns g c =
     (c.value_bits.ensures ∙ ap (value_bits g.D.Domain.ops 0 c.args.self.now.proved) (c.split_at.ensures.front ∙ ap (take REGISTERS) values))
     (c.value_bits-2.ensures ∙ ap (value_bits g.D.Domain.ops REGISTERS c.args.self.now.proved) (c.split_at.ensures.back ∙ ap (drop REGISTERS) values))
     (c.mark_bits.ensures ∙ ap (mark_bits 0) c.requires)
+    (c.margins_of.ensures.value ∙ ap (margins_of g.D.Domain.ops) values)
     (c.bounds_hashes.ensures ∙ ap (bounds_hashes g.D.Domain.ops) values)
-    (c.precisions.ensures.value ∙ ap (precisions g.D.Domain.ops) values)
     (c.links_of.ensures ∙ all_links _ _ count ∙ ap state_links values)

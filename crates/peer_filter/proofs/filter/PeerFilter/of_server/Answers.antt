@@ -1,26 +1,23 @@
-use Rattle.std.proofs.Common.{rules, [], ◌∷◌, inl, inr, refl}
-use Rattle.std.specs.Net.Addr.{IsUnspecifiedV4}
-use Rattle.peer_filter.specs.declared.rule.ServerEndpoint.TheVariants.{Port}
+use Rattle.std.proofs.Common.{rules}
 use Rattle.peer_filter.proofs.filter.PeerFilter.of_server.Goals as goal
 
-pub returns-then-is_unspecified : goal.returns-then-is_unspecified
-returns-then-is_unspecified c =
-    let listens : IsUnspecifiedV4 c.args.server.now.listen = search rules in
-    record {
-      loopback = c.loopback_of-loopback.result;
-      is_loopback = (c.loopback_of-loopback.ensures.ipv4, c.loopback_of-loopback.ensures.ipv6);
-      own = Port c.args.server.now.port ∷ [];
-      is_own = inl (listens, refl);
-      made = c.new.ensures;
-    }
-
 pub returns : goal.returns
-returns c =
-    let elsewhere : ¬ (IsUnspecifiedV4 c.args.server.now.listen) = search rules in
-    record {
-      loopback = c.loopback_of-loopback.result;
-      is_loopback = (c.loopback_of-loopback.ensures.ipv4, c.loopback_of-loopback.ensures.ipv6);
-      own = c.clients_at.result ∷ c.clients_at-2.result ∷ [];
-      is_own = inr (elsewhere, λ i. c.clients_at.ensures i ∷ c.clients_at-2.ensures i ∷ []);
-      made = c.new-2.ensures;
-    }
+returns c = record {
+  loopback = c.loopback_of.result;
+  is_loopback = (c.loopback_of.ensures.ipv4, c.loopback_of.ensures.ipv6);
+  own = c.deref.result.now;
+  are_own = record {
+    clients = c.client_endpoints-own.result.items;
+    is_client_port = c.client_endpoints-own.ensures.own;
+    listen = c.outside_v4.result;
+    is_listen = c.outside_v4.ensures;
+    relayed = c.outside_v4-2.result;
+    is_relayed = c.outside_v4-2.ensures;
+    listen6 = c.outside_v6.result;
+    is_listen6 = c.outside_v6.ensures;
+    relayed6 = c.outside_v6-2.result;
+    is_relayed6 = c.outside_v6-2.ensures;
+    own_is = search rules;
+  };
+  made = c.new.ensures;
+}

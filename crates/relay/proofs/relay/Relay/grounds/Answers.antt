@@ -18,7 +18,7 @@ slot_is : (c : goal.After-last_slot_over-slot) → c.last_slot_over-slot.result
     c.args.meta.now.from
     (rows_at c.moment_of-moment.result c.self.inside.tables) (take c.args.n (room_of c.self.inside.frame))
 slot_is c =
-    let live = c.new-helpers.ensures ∙ c.live_for.ensures in
+    let live = c.new-helpers.ensures ∙ c.live_for.ensures.live in
     let formed = rows_at-well_formed c.moment_of-moment.result c.self.inside.tables c.law_are_well_formed.ensures in
     let answers = ap held_answer live ∙ answers_for c.args.meta.now.from (rows_at c.moment_of-moment.result c.self.inside.tables) formed in
     c.last_slot_over-slot.ensures

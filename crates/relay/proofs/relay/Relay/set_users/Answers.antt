@@ -1,9 +1,13 @@
-use Rattle.std.proofs.Common.{◌≡◌, map, ap, ◌∙◌}
+use Rattle.std.proofs.Common.{◌≡◌, length, map, ap, ◌∙◌, true, is_some, rules}
+use Rattle.std.proofs.lemmas.List.{length-map}
+use Rattle.tables.specs.Rows.{Rows}
+use Rattle.control.specs.Configs.{are_users}
 use Rattle.control.specs.Users.{index_of_user, new_index}
 use Rattle.tables.specs.Users.{rows_of_users, index_in}
 use Rattle.relay.specs.Relays.{RelayContents}
 use Rattle.relay.specs.Users.{after_users}
 use Rattle.relay.proofs.NewUsers.{same_rows}
+use Rattle.relay.proofs.ValidUsers.{valid_with_users}
 use Rattle.relay.proofs.relay.Relay.set_users.Goals as goal
 
 pub returns-clause-ok : goal.returns-clause-ok
@@ -23,3 +27,14 @@ returns-clause-ok c =
       reply = c.self.inside.reply.items;
     })
     ∙ ap (λ (r : RelayContents). after_users r c.args.users) c.self.view_is
+
+pub invariant_of-self : goal.invariant_of-self
+invariant_of-self c =
+    let may : are_users (is_some c.self.inside.config.secret) c.args.users.items ≡ true = search rules in
+    record {
+      shipped = c.self.invariant.shipped;
+      valid = valid_with_users c.self.inside.config c.args.users c.self.invariant.valid may;
+      slots = ap (λ (r : Rows). length r.slots) c.replace_users.ensures ∙ length-map c.self.inside.tables.slots _ ∙ c.self.invariant.slots;
+      latest = c.self.invariant.latest;
+      room = c.self.invariant.room;
+    }

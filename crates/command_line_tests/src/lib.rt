@@ -1,5 +1,0 @@
-//! Tests of the crate `command_line`.
-#![tactic(auto)]
-
-#[cfg(test)]
-mod lines;

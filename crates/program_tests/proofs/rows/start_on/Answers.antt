@@ -1,4 +1,0 @@
-use Rattle.program_tests.proofs.rows.start_on.Goals as goal
-
-pub returns : goal.returns
-returns c = c.start.ensures.is_started

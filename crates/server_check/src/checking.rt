@@ -1,0 +1,233 @@
+//! The steps of a check.
+
+use crate::error::{CheckError, Step};
+use crate::exchange::{Exchange, Reply, Wanted, What};
+use crate::messages::{
+    Ask, Login, MESSAGE_BYTES, UNAUTHENTICATED, address_in, response_in, write_send,
+};
+use attributes::{Addr, lifetime};
+use credentials::Key;
+use rand::Rng;
+use std::io::Write;
+use std::net::{Ipv4Addr, Ipv6Addr, Net, SocketAddr, SocketAddrV4, SocketAddrV6};
+use std::rt::Clock;
+use std::str;
+use std::time::Duration;
+use stun::registry::attribute::{LIFETIME, NONCE, REALM, XOR_MAPPED_ADDRESS, XOR_RELAYED_ADDRESS};
+
+/// What is sent over the relay.
+const DATA: &[u8] = b"relayd check";
+
+/// A user that a server knows.
+#[derive(Clone, Copy)]
+pub struct Account<'a> {
+    pub name: &'a str,
+    pub password: &'a str,
+}
+
+/// Prints a step that works, and how long it took, in milliseconds.
+fn print<W: Write>(out: &mut W, step: &str, took: Duration) -> Result<(), CheckError> {
+    let micros = took.as_micros();
+    let (whole, tenth) = (micros / 1_000, micros % 1_000 / 100);
+    writeln!(out, "{step}, {whole}.{tenth} ms").map_err(|_| CheckError::Output)
+}
+
+/// Returns an address as that of a socket.
+fn socket_address(address: &Addr) -> SocketAddr {
+    match *address {
+        Addr::V4 { ip, port } => SocketAddr::V4(SocketAddrV4::new(Ipv4Addr::from(ip), port)),
+        Addr::V6 { ip, port } => {
+            SocketAddr::V6(SocketAddrV6::new(Ipv6Addr::from(ip), port, 0, 0))
+        }
+    }
+}
+
+/// Returns the address in an attribute of a success response to a request of a step.
+fn granted(step: Step, ask: Ask, reply: &Reply, kind: u16) -> Result<Addr, CheckError> {
+    match response_in(step, ask, reply.as_bytes())? {
+        (message, None) => address_in(&message, kind).ok_or(CheckError::Unexpected(step)),
+        (_, Some(code)) => Err(CheckError::Refused(step, code)),
+    }
+}
+
+/// Tests whether a request of a step is granted.
+fn expect_success(step: Step, ask: Ask, reply: &Reply) -> Result<(), CheckError> {
+    match response_in(step, ask, reply.as_bytes())? {
+        (_, None) => Ok(()),
+        (_, Some(code)) => Err(CheckError::Refused(step, code)),
+    }
+}
+
+/// Returns what the requests of a user are signed with, by the response to a request without credentials.
+fn login_in<'a>(account: Account<'a>, challenge: &'a Reply) -> Result<Login<'a>, CheckError> {
+    let step = Step::Challenge;
+    let message = match response_in(step, Ask::Allocate, challenge.as_bytes())? {
+        (message, Some(UNAUTHENTICATED)) => message,
+        (_, Some(code)) => return Err(CheckError::Refused(step, code)),
+        (_, None) => return Err(CheckError::Unexpected(step)),
+    };
+    let (Some(realm), Some(nonce)) = (message.value_of(REALM), message.value_of(NONCE)) else {
+        return Err(CheckError::Unexpected(step));
+    };
+    let Ok(text) = str::from_utf8(realm) else {
+        return Err(CheckError::Unexpected(step));
+    };
+    Ok(Login {
+        name: account.name,
+        realm,
+        nonce,
+        key: Key::of(account.name.as_bytes(), text, account.password.as_bytes()),
+    })
+}
+
+/// Returns the lifetime that an Allocate response gives, in seconds.
+fn lifetime_in(reply: &Reply) -> Result<u32, CheckError> {
+    let step = Step::Allocate;
+    let (message, _) = response_in(step, Ask::Allocate, reply.as_bytes())?;
+    let Some(value) = message.value_of(LIFETIME) else {
+        return Err(CheckError::Unexpected(step));
+    };
+    lifetime(value).map_err(|_| CheckError::Unexpected(step))
+}
+
+/// Asks for the address of the client as the server sees it.
+fn bind<R: Clock + Net, G: Rng, W: Write>(
+    exchange: &mut Exchange<'_, R, G>,
+    out: &mut W,
+) -> Result<Addr, CheckError> {
+    let reply = exchange.ask(Step::Binding, Ask::Binding, None)?;
+    let mapped = granted(Step::Binding, Ask::Binding, &reply, XOR_MAPPED_ADDRESS)?;
+    let address = socket_address(&mapped);
+    if write!(out, "this client is {address}: ").is_err() {
+        return Err(CheckError::Output);
+    }
+    print(out, "Binding", reply.took)?;
+    Ok(mapped)
+}
+
+/// Asks for an allocation.
+fn allocate<R: Clock + Net, G: Rng, W: Write>(
+    exchange: &mut Exchange<'_, R, G>,
+    login: &Login<'_>,
+    out: &mut W,
+) -> Result<Addr, CheckError> {
+    let reply = exchange.ask(Step::Allocate, Ask::Allocate, Some(login))?;
+    let relayed = granted(Step::Allocate, Ask::Allocate, &reply, XOR_RELAYED_ADDRESS)?;
+    let seconds = lifetime_in(&reply)?;
+    let address = socket_address(&relayed);
+    if write!(out, "{address} for {seconds} s: ").is_err() {
+        return Err(CheckError::Output);
+    }
+    print(out, "Allocate", reply.took)?;
+    Ok(relayed)
+}
+
+/// Asks for a permission for the client itself.
+fn permit<R: Clock + Net, G: Rng, W: Write>(
+    exchange: &mut Exchange<'_, R, G>,
+    login: &Login<'_>,
+    mapped: Addr,
+    out: &mut W,
+) -> Result<(), CheckError> {
+    let ask = Ask::Permission(mapped);
+    let reply = exchange.ask(Step::Permission, ask, Some(login))?;
+    expect_success(Step::Permission, ask, &reply)?;
+    print(out, "CreatePermission", reply.took)
+}
+
+/// Sends a datagram to the relayed address, which comes back from the server.
+fn send_to_relayed<R: Clock + Net, G: Rng, W: Write>(
+    exchange: &Exchange<'_, R, G>,
+    relayed: SocketAddr,
+    out: &mut W,
+) -> Result<(), CheckError> {
+    let wanted = Wanted {
+        step: Step::ToRelayed,
+        from: exchange.server,
+        is: What::Data(DATA),
+    };
+    let reply = exchange.send_until(DATA, relayed, &wanted)?;
+    print(out, "a datagram to the relayed address", reply.took)
+}
+
+/// Sends a datagram to the client itself over the relay.
+fn send_from_relayed<R: Clock + Net, G: Rng, W: Write>(
+    exchange: &mut Exchange<'_, R, G>,
+    mapped: &Addr,
+    relayed: SocketAddr,
+    out: &mut W,
+) -> Result<(), CheckError> {
+    let tx = exchange.draw();
+    let mut buffer = [0; MESSAGE_BYTES];
+    let Ok(len) = write_send(mapped, DATA, tx, &mut buffer) else {
+        return Err(CheckError::Long);
+    };
+    let wanted = Wanted {
+        step: Step::FromRelayed,
+        from: relayed,
+        is: What::Bytes(DATA),
+    };
+    let indication = buffer.get(..len).unwrap_or(&[]);
+    let reply = exchange.send_until(indication, exchange.server, &wanted)?;
+    print(out, "a datagram from the relayed address", reply.took)
+}
+
+/// Ends the allocation.
+fn release<R: Clock + Net, G: Rng>(
+    exchange: &mut Exchange<'_, R, G>,
+    login: &Login<'_>,
+) -> Result<(), CheckError> {
+    let reply = exchange.ask(Step::Release, Ask::Release, Some(login))?;
+    expect_success(Step::Release, Ask::Release, &reply)
+}
+
+/// Sends data over an allocation: to the relayed address, and from it.
+fn relay<R: Clock + Net, G: Rng, W: Write>(
+    exchange: &mut Exchange<'_, R, G>,
+    login: &Login<'_>,
+    mapped: Addr,
+    relayed: Addr,
+    out: &mut W,
+) -> Result<(), CheckError> {
+    permit(exchange, login, mapped, out)?;
+    let relayed = socket_address(&relayed);
+    // the first one opens the way back through a NAT of the client
+    send_to_relayed(exchange, relayed, out)?;
+    send_from_relayed(exchange, &mapped, relayed, out)
+}
+
+/// Checks the allocation of a user, which is ended in any case.
+fn check_user<R: Clock + Net, G: Rng, W: Write>(
+    exchange: &mut Exchange<'_, R, G>,
+    account: Account<'_>,
+    mapped: Addr,
+    out: &mut W,
+) -> Result<(), CheckError> {
+    let challenge = exchange.ask(Step::Challenge, Ask::Allocate, None)?;
+    let login = login_in(account, &challenge)?;
+    let relayed = allocate(exchange, &login, out)?;
+    let relays = relay(exchange, &login, mapped, relayed, out);
+    let released = release(exchange, &login);
+    relays.and(released)
+}
+
+/// Checks a server, as a client does: asks it for a Binding and, with a user, for an allocation and a permission for the client
+/// itself, and sends a datagram to itself over the relay and back. Prints a line for each step that works, with how long it took.
+/// See docs/DECISIONS.md, "A check asks as a client".
+///
+/// # Errors
+/// The first step that doesn't work.
+pub fn check<R: Clock + Net, G: Rng, W: Write>(
+    rt: &R,
+    rng: &mut G,
+    server: SocketAddr,
+    account: Option<Account<'_>>,
+    out: &mut W,
+) -> Result<(), CheckError> {
+    let mut exchange = Exchange::new(rt, rng, server)?;
+    let mapped = bind(&mut exchange, out)?;
+    match account {
+        Some(account) => check_user(&mut exchange, account, mapped, out),
+        None => Ok(()),
+    }
+}

@@ -1,0 +1,158 @@
+"""Prints what sessions lose while others flood their server: the built relayd's `serve`, and coturn beside it, where `turnserver` is
+there. It is no part of the test command.
+
+    tests/floods.py [SECONDS]
+
+100 sessions send 5,000 datagrams a second over channels, for some seconds without a flood and beside each: a stranger's garbage, one
+session that sends as fast as it can, and a stranger's requests with a wrong password, each by processes that do nothing else. What
+doesn't come to the peer within a second is lost. Floods are faster on one machine than on another, so how many datagrams they sent
+is printed as well. Where there are four processors or more, the servers have one, and the sessions one.
+"""
+
+import contextlib
+import itertools
+import multiprocessing
+import os
+import shutil
+import socket
+import sys
+import tempfile
+import time
+
+from lib.program import build
+from lib.rules import ALLOCATE, NONCE, REALM, USERNAME, message
+from lib.server import UDP, Client, Server, address_of, channel_data, code_of, udp_socket
+from serve_speed import Coturn
+
+SESSIONS = 100
+RATE = 5_000  # datagrams a second, of all sessions
+SECONDS = 5
+SIZE = 172  # the bytes of a datagram of G.711 with its RTP header
+SERVER_CPU, SESSION_CPU = 2, 1
+BUFFER = 1 << 22
+
+
+def on_processor(number, pid=0):
+    """Keeps a process on a processor, where there are four."""
+    if (os.cpu_count() or 1) >= 4:
+        os.sched_setaffinity(pid, {number})
+
+
+def flood(datagrams, server, bound, stop, sent):
+    """Sends datagrams to a server from a socket until it is stopped, and counts them."""
+    if (os.cpu_count() or 1) >= 4:
+        os.sched_setaffinity(0, {0, 3})
+    for count, datagram in enumerate(itertools.cycle(datagrams)):
+        with contextlib.suppress(OSError):
+            bound.sendto(datagram, server)
+        if count % 1_000 == 0:
+            sent.value = count
+            if stop.is_set():
+                return
+
+
+def garbage(server):
+    """A socket of a stranger, and random bytes."""
+    return udp_socket(), [os.urandom(100) for _ in range(100)]
+
+
+def busy_session(server):
+    """The socket of a session, and its data."""
+    client = Client(server)
+    sink = udp_socket()
+    client.allocate()
+    if code_of(client.bind(address_of(sink))) != 0:
+        raise ValueError("no channel")
+    return client.socket, [channel_data(bytes(SIZE))]
+
+
+def wrong_passwords(server):
+    """A socket of a stranger, and requests under a key that is wrong."""
+    client = Client(server, password="q")
+    client.challenge()
+    given = [UDP, (USERNAME, client.name), (REALM, b"relay"), (NONCE, client.nonce)]
+    return client.socket, [message(ALLOCATE, os.urandom(12), given, client.key) for _ in range(100)]
+
+
+FLOODS = {"nothing": None, "garbage": garbage, "a busy session": busy_session, "wrong passwords": wrong_passwords}
+
+
+class Sessions:
+    """Sessions of a server, each with a channel to one peer."""
+
+    def __init__(self, server, stack):
+        self.peer = stack.enter_context(udp_socket())
+        self.peer.setsockopt(socket.SOL_SOCKET, 33, BUFFER)  # SO_RCVBUFFORCE
+        self.peer.setblocking(False)
+        self.clients = [stack.enter_context(Client(server)) for _ in range(SESSIONS)]
+        for client in self.clients:
+            client.allocate()
+            if code_of(client.bind(address_of(self.peer))) != 0:
+                raise ValueError("no channel")
+
+    def received(self):
+        """Receives what has come, and returns how many datagrams these are."""
+        count = 0
+        with contextlib.suppress(BlockingIOError):
+            while True:
+                self.peer.recv(2_000)
+                count += 1
+        return count
+
+    def lost(self, seconds):
+        """Sends for some seconds, and returns the share that is lost."""
+        data, sent, came, began = channel_data(bytes(SIZE)), 0, self.received() * 0, time.monotonic()
+        for client in itertools.cycle(self.clients):
+            while (ahead := sent / RATE - (time.monotonic() - began)) > 0:
+                came += self.received()
+                time.sleep(min(ahead, 0.001))
+            if sent >= RATE * seconds:
+                break
+            client.send(data)
+            sent += 1
+        end = time.monotonic() + 1
+        while time.monotonic() < end:
+            came += self.received()
+            time.sleep(0.01)
+        return 1 - came / sent
+
+
+def measured(name, server, pid, seconds):
+    """Prints what the sessions of a server lose beside each flood."""
+    for thread in os.listdir(f"/proc/{pid}/task"):
+        on_processor(SERVER_CPU, int(thread))
+    with contextlib.ExitStack() as stack:
+        sessions = Sessions(server, stack)
+        for title, kind in FLOODS.items():
+            stop, sent = multiprocessing.Event(), multiprocessing.Value("q", 0)
+            process = None
+            if kind is not None:
+                bound, datagrams = kind(server)
+                process = multiprocessing.Process(target=flood, args=(datagrams, ("127.0.0.1", server.port), bound, stop, sent))
+                process.start()
+                time.sleep(0.2)
+            began, at_first = time.monotonic(), sent.value
+            lost = sessions.lost(seconds)
+            rate = (sent.value - at_first) / (time.monotonic() - began)
+            if process is not None:
+                stop.set()
+                process.join()
+            print(f"{name}, beside {title}: {lost:.2%} of the sessions' datagrams lost, {rate:,.0f} a second sent by the flood", flush=True)
+            time.sleep(1)
+
+
+def main():
+    """Prints a line for each server and each flood."""
+    build()
+    seconds = int(sys.argv[1]) if len(sys.argv) > 1 else SECONDS
+    on_processor(SESSION_CPU)
+    with Server(slots=SESSIONS + 1) as server:
+        measured("relayd", server, server.process.pid, seconds)
+    if shutil.which("turnserver"):
+        with tempfile.TemporaryDirectory() as folder, Coturn(folder, slots=SESSIONS + 1) as server:
+            measured("coturn", server, server.process.pid, seconds)
+    return 0
+
+
+if __name__ == "__main__":
+    sys.exit(main())
