@@ -5,6 +5,7 @@ mod BoundedAnswers
 mod ChangedRows
 mod Confined
 mod Datagrams
+mod ExitReasons
 mod ExitSlots
 mod FirstLines
 mod Frames

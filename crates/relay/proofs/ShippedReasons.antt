@@ -28,35 +28,36 @@ use Rattle.rules.specs.declared.disposition.Disposition.{Disposition}
 use Rattle.rules.specs.declared.disposition.Disposition.TheVariants.{Discarded}
 use Rattle.relay.specs.ByPrograms.{Programs, program_for, disposition_by_run, disposition_of_sent, is_there, relayed_where_sent}
 use Rattle.programs.specs.Runs.{run_for}
-use Rattle.relay.specs.Reasons.{exit_slot, reason_of, reason_of_datagram}
+use Rattle.relay.specs.Reasons.{exit_slot, exit_unsent, reason_of, reason_of_datagram}
 use Rattle.relay.specs.Shipped.{AreShipped}
 use Rattle.relay.specs.declared.reason.Reason.TheVariants.{Done}
+use Rattle.relay.specs.declared.reason.Unsent.{Unsent}
 use Rattle.relay.proofs.Confined.{all_relayed}
 use Rattle.relay.proofs.ShippedRules.{ClientServes, PeerServes, ends_relayed, ends_passed, no_channel_data, not_relayed}
 
 -- ---- the reason, by what was done and by what the rules do
 
 -- what the rules do was done
-itself : (done : Disposition) (slot : ℕ) → reason_of done (discard_in done) slot ≡ Done done
-itself (Discarded ByProgram) slot = refl
-itself done slot = refl
+itself : (done : Disposition) (slot : ℕ) (unsent : Unsent) → reason_of done (discard_in done) slot unsent ≡ Done done
+itself (Discarded ByProgram) slot unsent = refl
+itself done slot unsent = refl
 
-alike : (done ruled : Disposition) (slot : ℕ) → done ≡ ruled → reason_of done (discard_in ruled) slot ≡ Done ruled
-alike done ruled slot same = ap (λ (d : Disposition). reason_of d (discard_in ruled) slot) same ∙ itself ruled slot
+alike : (done ruled : Disposition) (slot : ℕ) (unsent : Unsent) → done ≡ ruled → reason_of done (discard_in ruled) slot unsent ≡ Done ruled
+alike done ruled slot unsent same = ap (λ (d : Disposition). reason_of d (discard_in ruled) slot unsent) same ∙ itself ruled slot unsent
 
 -- a program sends just what the tests let through
-relaying : (sent : Option Sending) (test : Result (Unit {0}) Discard) (slot : ℕ) → Agree sent (relayed_if test)
-    → reason_of (relayed_where_sent sent) (discard_in (relayed_if test)) slot ≡ Done (relayed_if test)
-relaying None (Ok passed) slot agree = absurd cc
-relaying None (Err reason) slot agree = refl
-relaying (Some s) (Ok passed) slot agree = refl
-relaying (Some s) (Err reason) slot agree = absurd cc
+relaying : (sent : Option Sending) (test : Result (Unit {0}) Discard) (slot : ℕ) (unsent : Unsent) → Agree sent (relayed_if test)
+    → reason_of (relayed_where_sent sent) (discard_in (relayed_if test)) slot unsent ≡ Done (relayed_if test)
+relaying None (Ok passed) slot unsent agree = absurd cc
+relaying None (Err reason) slot unsent agree = refl
+relaying (Some s) (Ok passed) slot unsent agree = refl
+relaying (Some s) (Err reason) slot unsent agree = absurd cc
 
-by_tests : (done ruled : Disposition) (sent : Option Sending) (test : Result (Unit {0}) Discard) (slot : ℕ)
+by_tests : (done ruled : Disposition) (sent : Option Sending) (test : Result (Unit {0}) Discard) (slot : ℕ) (unsent : Unsent)
     → done ≡ relayed_where_sent sent → ruled ≡ relayed_if test → Agree sent (relayed_if test)
-    → reason_of done (discard_in ruled) slot ≡ Done ruled
-by_tests done ruled sent test slot done_is ruled_is agree =
-    (λ i. reason_of (done_is i) (discard_in (ruled_is i)) slot) ∙ relaying sent test slot agree ∙ ap Done (sym ruled_is)
+    → reason_of done (discard_in ruled) slot unsent ≡ Done ruled
+by_tests done ruled sent test slot unsent done_is ruled_is agree =
+    (λ i. reason_of (done_is i) (discard_in (ruled_is i)) slot unsent) ∙ relaying sent test slot unsent agree ∙ ap Done (sym ruled_is)
 
 -- ---- a datagram of each side
 
@@ -75,9 +76,12 @@ module _ (config : Config) (now : ℕ) (tx : List ℕ) (rows : Rows) (datagram :
   abbrev slot_of : Source → ℕ
   slot_of from = exit_slot programs tx from live datagram
 
+  abbrev unsent_of : Source → Unsent
+  unsent_of from = exit_unsent programs tx from live datagram
+
   abbrev IsRuled : Source → Type 0
   IsRuled from =
-      reason_of (done from) (discard_in (ruled_disposition config now tx from rows datagram)) (slot_of from)
+      reason_of (done from) (discard_in (ruled_disposition config now tx from rows datagram)) (slot_of from) (unsent_of from)
       ≡ Done (ruled_disposition config now tx from rows datagram)
 
   client_ruled : (client : Addr) → IsRelayStart client tx live datagram
@@ -106,19 +110,19 @@ module _ (config : Config) (now : ℕ) (tx : List ℕ) (rows : Rows) (datagram :
         → Agree sent (relayed_if (channel_data_test client live datagram)) → IsRuled (Client client)
     channelled other sent done_is agree =
         by_tests (done (Client client)) (passes client datagram) sent (channel_data_test client live datagram)
-        (slot_of (Client client)) done_is
+        (slot_of (Client client)) (unsent_of (Client client)) done_is
         (cond-false (begins_as_stun datagram) (disposition_of_message config now client rows (message_in datagram))
         (relayed_if (channel_data_test client live datagram)) other) agree
 
     passed : PassesOn programs.client tx (Client client) live datagram → IsRuled (Client client)
-    passed on = alike (done (Client client)) (passes client datagram) (slot_of (Client client))
+    passed on = alike (done (Client client)) (passes client datagram) (slot_of (Client client)) (unsent_of (Client client))
         (ends_passed passes (disposition_of_sent programs.confinement (Client client) live) tx live datagram programs.client client on)
 
     by_message : begins_as_stun datagram ≡ true → (m : Option Parts) → message_in datagram ≡ m → IsRuled (Client client)
     by_message stun None e = passed (serves.stun stun (λ p found. absurd (none-some p (sym e ∙ found))))
     by_message stun (Some p) e = elim (cases_Bool (is_plain_send p)) [
       | inl plain ↦
-          by_tests (done (Client client)) (passes client datagram) _ (send_test client live p) (slot_of (Client client))
+          by_tests (done (Client client)) (passes client datagram) _ (send_test client live p) (slot_of (Client client)) (unsent_of (Client client))
           (relayed _ (send_permitted client live p) (serves.send p e plain))
           (cond-true (begins_as_stun datagram) (disposition_of_message config now client rows (message_in datagram))
           (relayed_if (channel_data_test client live datagram)) stun
@@ -134,7 +138,7 @@ module _ (config : Config) (now : ℕ) (tx : List ℕ) (rows : Rows) (datagram :
   peer_ruled : (slot : ℕ) (peer : Addr) → ServesPeer programs.peer tx slot peer live datagram
       → IsRuled (Peer slot peer)
   peer_ruled slot peer serves =
-      by_tests (done (Peer slot peer)) _ _ (peer_test slot peer tx live datagram) (slot_of (Peer slot peer))
+      by_tests (done (Peer slot peer)) _ _ (peer_test slot peer tx live datagram) (slot_of (Peer slot peer)) (unsent_of (Peer slot peer))
       (ends_relayed passes (disposition_of_sent programs.confinement (Peer slot peer) live) tx live datagram programs.peer (Peer slot peer) _ serves
       ∙ all_relayed (Peer slot peer) live programs.confinement _ (peer_data_permitted slot peer tx live datagram)) refl
       (peer_agrees slot peer tx live datagram)
@@ -169,7 +173,7 @@ module _ (serves_client : ClientServes) (serves_peer : PeerServes) (programs : P
       ≡ Done (ruled_disposition config now tx from rows datagram)
   reason_is_ruled from is served there =
       ap (λ (d : Disposition). reason_of d (discard_in (ruled_disposition config now tx from rows datagram))
-      (exit_slot programs tx from (rows_at now rows) datagram))
+      (exit_slot programs tx from (rows_at now rows) datagram) (exit_unsent programs tx from (rows_at now rows) datagram))
       (cond-true (is_served from) _ (Discarded NotServed) served
       ∙ cond-true (is_there from rows) (done config now tx rows datagram programs from) (Discarded NotServed)
       there)

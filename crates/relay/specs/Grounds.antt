@@ -7,7 +7,7 @@ use Rattle.events.specs.Events.{Event, Datagram, Nonce}
 use Rattle.events.specs.declared.meta.Meta.{Meta}
 use Rattle.rules.specs.Discards.{discard_in, ruled_disposition}
 use Rattle.rules.specs.declared.disposition.Disposition.{Disposition}
-use Rattle.relay.specs.Reasons.{exit_slot, reason_of}
+use Rattle.relay.specs.Reasons.{exit_slot, exit_unsent, reason_of}
 use Rattle.relay.specs.Relays.{RelayContents}
 use Rattle.relay.specs.declared.explaining.Grounds.{Grounds}
 use Rattle.relay.specs.declared.reason.Reason.{Reason}
@@ -17,6 +17,7 @@ abbrev pub grounds_of : Config → RelayContents → Meta → List ℕ → Groun
 grounds_of config r given bytes = record {
   ruled = discard_in (ruled_disposition config (moment_of r.greatest given.now) given.tx given.from r.rows bytes);
   slot = exit_slot r.programs given.tx given.from (rows_at (moment_of r.greatest given.now) r.rows) bytes;
+  unsent = exit_unsent r.programs given.tx given.from (rows_at (moment_of r.greatest given.now) r.rows) bytes;
 }
 
 -- where reasons are wanted, and the event of a line is a datagram
@@ -28,4 +29,4 @@ grounds_of_line explains config r (Some (Datagram given bytes)) =
 
 -- the reason of a step that did this, where there are grounds
 abbrev pub reason_by : Disposition → Option Grounds → Option Reason
-reason_by done grounds = option_map (λ g. reason_of done g.ruled g.slot) grounds
+reason_by done grounds = option_map (λ g. reason_of done g.ruled g.slot g.unsent) grounds

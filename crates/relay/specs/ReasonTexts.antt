@@ -13,6 +13,8 @@ use Rattle.rules.specs.declared.disposition.Disposition.{Disposition}
 use Rattle.rules.specs.declared.disposition.Disposition.TheVariants.{Relayed, Answered, Discarded}
 use Rattle.relay.specs.declared.reason.Reason.{Reason}
 use Rattle.relay.specs.declared.reason.Reason.TheVariants as reason
+use Rattle.relay.specs.declared.reason.Unsent.{Unsent}
+use Rattle.relay.specs.declared.reason.Unsent.TheVariants as unsent
 
 abbrev pub grant_text : Grant → List ℕ
 grant_text grant.Mapped = codes "granted an address"
@@ -55,10 +57,18 @@ disposition_text Relayed = codes "relayed"
 disposition_text (Answered response) = response_text response
 disposition_text (Discarded reason) = discard_text reason
 
+-- why a program sends nothing
+abbrev pub unsent_text : Unsent → List ℕ
+unsent_text (unsent.Verdict verdict) = codes ", verdict " ++ decimal verdict
+unsent_text unsent.NoWindow = codes ", without a window"
+unsent_text unsent.NoAllocation = codes ", without an allocation"
+unsent_text unsent.NoDestination = codes ", without a destination"
+unsent_text unsent.OtherFamily = codes ", to another family"
+
 abbrev pub explanation_text : Reason → List ℕ
 explanation_text reason.NonceSet = codes "nonce set"
 explanation_text (reason.Done done) = disposition_text done
-explanation_text (reason.Program slot) = codes "discarded by the program at slot " ++ decimal slot
+explanation_text (reason.Program slot unsent) = codes "discarded by the program at slot " ++ (decimal slot ++ unsent_text unsent)
 
 -- what ends the line of an answer: a line feed, and before it a reason, if there is one
 abbrev pub line_ending : Option Reason → List ℕ

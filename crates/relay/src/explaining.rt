@@ -1,25 +1,32 @@
 //! Explanations: why a step sends what it does, found before the step.
 
-ghost use Rattle.std.specs.Prelude.{◌≡◌, ℕ, List, [], ◌∷◌, ◌++◌, if◌then◌else◌, true, false, Some, None};
+ghost use Rattle.std.specs.Prelude.{◌≡◌, ℕ, List, [], ◌∷◌, ◌++◌, if◌then◌else◌, true, false, Some, None, option_map};
 ghost use Rattle.control.specs.declared.config.Config.{Config};
 ghost use Rattle.events.specs.Events.{Event};
 ghost use Rattle.events.specs.declared.meta.Source.{Source};
+ghost use Rattle.machine.specs.Tracing.{EndsWith};
 ghost use Rattle.programs.specs.Runs.{run_for};
 ghost use Rattle.relay.specs.ByPrograms.{Programs, program_for};
+ghost use Rattle.relay.specs.Found.{held_for};
 ghost use Rattle.relay.specs.Grounds.{reason_by};
-ghost use Rattle.relay.specs.Reasons.{exit_slot, reason_of_event};
+ghost use Rattle.relay.specs.Reasons.{exit_slot, missing_to_peer, reason_of_datagram, reason_of_event, unsent_by_run, HoldsAtExit};
 ghost use Rattle.relay.specs.ReasonTexts.{line_ending};
 ghost use Rattle.relay.specs.Replays.{answer_text};
+ghost use Rattle.relay.specs.declared.reason.Reason.TheVariants.{Program};
+ghost use Rattle.relay.specs.declared.reason.Unsent.{Unsent};
 ghost use Rattle.rules.specs.Systems.{SystemState};
-ghost use Rattle.semantics.specs.Runs.{Exited};
-ghost use Rattle.tables.specs.Rows.{Rows};
+ghost use Rattle.semantics.specs.Runs.{Exited, Run};
+ghost use Rattle.tables.specs.Rows.{Rows, rows_at};
 
-use crate::reason::{Reason, reason_of};
+use crate::reason::{Reason, Unsent, reason_of};
 use crate::relay::Relay;
-use events::{Parsed, parse};
+use attributes::Addr;
+use events::{Parsed, Source, parse};
 use insn::Insn;
-use machine::Sink;
+use machine::{Outcome, Sink, Stuck};
+use programs::SENDS;
 use rules::{Discard, Disposition};
+use tables::LiveSlot;
 
 /// A sink that keeps the slot of the last step.
 #[derive(Clone, Copy)]
@@ -49,22 +56,69 @@ pub(crate) struct Grounds {
     pub(crate) ruled: Option<Discard>,
     /// The slot at which the run of the program exits.
     pub(crate) slot: usize,
+    /// Why the program sends nothing there, where it does.
+    pub(crate) unsent: Unsent,
+}
+
+/// Returns what is missing first, beside a window, of what a client's program would send, where something is.
+fn missing_to_peer(live: &Option<LiveSlot<'_>>, destination: Option<Addr>) -> Unsent
+    ensures { result ≡ missing_to_peer (option_map (λ held. held.allocation) live.now) destination }
+{
+    match (live, destination) {
+        (None, _) => Unsent::NoAllocation,
+        (Some(_), None) => Unsent::NoDestination,
+        (Some(_), Some(_)) => Unsent::OtherFamily,
+    }
+}
+
+/// Returns why the program of a source sends nothing, where it does, by what is live in the slot in which helpers look up and by
+/// the end of its run.
+pub(crate) fn unsent_at(
+    from: &Source,
+    live: &Option<LiveSlot<'_>>,
+    end: &Result<Outcome, Stuck>,
+) -> Unsent
+    ensures { (rows : Rows) (r : Run) → live.now ≡ held_for from.now rows → EndsWith end.now r
+        → result ≡ unsent_by_run from.now rows r }
+{
+    // a verified program always exits
+    let Ok(outcome) = end else {
+        return Unsent::Verdict(0);
+    };
+    if outcome.verdict != SENDS {
+        return Unsent::Verdict(outcome.verdict);
+    }
+    if outcome.window.is_none() {
+        return Unsent::NoWindow;
+    }
+    match *from {
+        Source::Client(_) => missing_to_peer(live, outcome.destination),
+        Source::Peer { .. } => Unsent::NoAllocation,
+    }
 }
 
 /// Returns the reason of a step that did this, where there are grounds.
 pub(crate) fn reason_by(done: Disposition, grounds: Option<Grounds>) -> Option<Reason>
     ensures { result ≡ reason_by done grounds }
 {
-    let Grounds { ruled, slot } = grounds?;
-    Some(reason_of(done, ruled, slot))
+    let Grounds {
+        ruled,
+        slot,
+        unsent,
+    } = grounds?;
+    Some(reason_of(done, ruled, slot, unsent))
 }
 
-/// States what reasons are of: the slot that one names is that of the last state of the program's run, which exits there; and a
-/// line with a reason is the line without it, up to its line feed, and the reason.
+/// States what reasons are of: the slot that one names is that of the last state of the program's run, which exits there; what it
+/// says of why nothing is sent holds there; and a line with a reason is the line without it, up to its line feed, and the reason.
 pub fn law_reasons_are_of_the_answers()
     ensures exit { (programs : Programs) (tx : List ℕ) (from : Source) (live : Rows) (bytes : List ℕ) (verdict : ℕ)
         → (run_for (program_for programs from) tx from live bytes).ending ≡ Exited verdict
         → exit_slot programs tx from live bytes ≡ (run_for (program_for programs from) tx from live bytes).state.slot }
+    ensures unsent { (programs : Programs) (config : Config) (now : ℕ) (tx : List ℕ) (from : Source) (rows : Rows) (bytes : List ℕ)
+        (slot : ℕ) (unsent : Unsent) (verdict : ℕ) → reason_of_datagram programs config now tx from rows bytes ≡ Program slot unsent
+        → (run_for (program_for programs from) tx from (rows_at now rows) bytes).ending ≡ Exited verdict
+        → HoldsAtExit from (rows_at now rows) verdict (run_for (program_for programs from) tx from (rows_at now rows) bytes).state unsent }
     ensures line { (programs : Programs) (config : Config) (s : SystemState) (e : Event) → (answer : List ℕ)
         × (answer_text false programs config s e ≡ answer ++ 10 ∷ [])
         × (answer_text true programs config s e ≡ answer ++ line_ending (Some (reason_of_event programs config s e))) }

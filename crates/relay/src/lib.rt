@@ -23,7 +23,7 @@ pub use error::RelayError;
 pub use events::{Action, Meta, Source};
 pub use explaining::law_reasons_are_of_the_answers;
 pub use isolation::law_programs_keep_users_apart;
-pub use reason::Reason;
+pub use reason::{Reason, Unsent};
 pub use relay::Relay;
 pub use replaying::ReplayError;
 pub use requests::law_requests_change_rows;

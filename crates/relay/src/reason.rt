@@ -4,8 +4,8 @@ ghost use Rattle.std.specs.Prelude.{◌≡◌, ◌+◌, ◌≤◌, ◌++◌, Som
 ghost use Rattle.arrayvec.specs.ArrayVec.{array_vec_len};
 ghost use Rattle.control.specs.declared.response.Response.TheVariants as response;
 ghost use Rattle.relay.specs.Reasons.{reason_of, reason_of_exit};
-ghost use Rattle.relay.specs.ReasonTexts.{credentials_text, discard_text, disposition_text, explanation_text, grant_text, line_ending, response_text};
-ghost use Rattle.relay.specs.declared.reason.TheConstants.{ENDING, LONGEST};
+ghost use Rattle.relay.specs.ReasonTexts.{credentials_text, discard_text, disposition_text, explanation_text, grant_text, line_ending, response_text, unsent_text};
+ghost use Rattle.relay.specs.declared.reason.TheConstants.{ENDING, LONGEST, LONGEST_UNSENT};
 
 use arrayvec::ArrayVec;
 use control::{Grant, Response};
@@ -21,26 +21,51 @@ pub enum Reason {
     NonceSet,
     /// This was done with the datagram. Where a program sends nothing and the rules would neither, it is why they wouldn't.
     Done(Disposition),
-    /// The program of the datagram's side sends nothing where the rules would: its run exits at this slot.
-    Program { slot: usize },
+    /// The program of the datagram's side sends nothing where the rules would: its run exits at this slot, and this is why it sends
+    /// nothing there.
+    Program { slot: usize, unsent: Unsent },
 }
 
+/// Why a program sends nothing, where its run exits: the first of these that applies.
+#[derive(Clone, Copy, Debug, PartialEq, Eq)]
+pub enum Unsent {
+    /// Its verdict is this one, and not the one that sends.
+    Verdict(u64),
+    /// It sends, and has set no window.
+    NoWindow,
+    /// It sends a window, and the slot in which it looks up has no live allocation: the client has none, or the slot that a peer's
+    /// datagram came to.
+    NoAllocation,
+    /// It sends the window of a client's datagram, and has set no destination.
+    NoDestination,
+    /// It sends the window of a client's datagram to a destination of another family than the allocation's.
+    OtherFamily,
+}
+
+/// A bound on the length of the text of why a program sends nothing, in bytes.
+const LONGEST_UNSENT: usize = 30;
+
 /// A bound on the length of the text of a reason, in bytes.
-const LONGEST: usize = 60;
+const LONGEST: usize = LONGEST_UNSENT + 53;
 
 /// Room for what ends a line: three bytes, the text of a reason, and a line feed.
 const ENDING: usize = LONGEST + 4;
 
 /// Returns the reason of a step that did this, where the rules send nothing for that reason, if they do, and the run of the
-/// program exits at a slot.
-pub(crate) fn reason_of(done: Disposition, ruled: Option<Discard>, slot: usize) -> Reason
-    ensures { result ≡ reason_of done ruled slot }
+/// program exits at a slot, and sends nothing there for this one.
+pub(crate) fn reason_of(
+    done: Disposition,
+    ruled: Option<Discard>,
+    slot: usize,
+    unsent: Unsent,
+) -> Reason
+    ensures { result ≡ reason_of done ruled slot unsent }
 {
     match (done, ruled) {
         (Disposition::Discarded(Discard::ByProgram), Some(reason)) => {
             Reason::Done(Disposition::Discarded(reason))
         }
-        (Disposition::Discarded(Discard::ByProgram), None) => Reason::Program { slot },
+        (Disposition::Discarded(Discard::ByProgram), None) => Reason::Program { slot, unsent },
         _ => Reason::Done(done),
     }
 }
@@ -132,6 +157,24 @@ fn discard_text(reason: Discard) -> &'static [u8]
     }
 }
 
+/// Appends why a program sends nothing.
+fn push_unsent(text: &mut ArrayVec<u8, ENDING>, unsent: Unsent)
+    requires { array_vec_len text.old + LONGEST_UNSENT ≤ ENDING }
+    ensures bytes { text.new.items ≡ text.old.items ++ unsent_text unsent }
+    ensures len { array_vec_len text.new ≤ array_vec_len text.old + LONGEST_UNSENT }
+{
+    match unsent {
+        Unsent::Verdict(verdict) => {
+            push_bytes(text, b", verdict ");
+            push_number(text, verdict);
+        }
+        Unsent::NoWindow => push_bytes(text, b", without a window"),
+        Unsent::NoAllocation => push_bytes(text, b", without an allocation"),
+        Unsent::NoDestination => push_bytes(text, b", without a destination"),
+        Unsent::OtherFamily => push_bytes(text, b", to another family"),
+    }
+}
+
 /// Appends the text of a reason.
 fn push_reason(text: &mut ArrayVec<u8, ENDING>, reason: Reason)
     requires { array_vec_len text.old + LONGEST ≤ ENDING }
@@ -143,9 +186,10 @@ fn push_reason(text: &mut ArrayVec<u8, ENDING>, reason: Reason)
         Reason::Done(Disposition::Relayed) => push_bytes(text, b"relayed"),
         Reason::Done(Disposition::Answered(response)) => push_response(text, response),
         Reason::Done(Disposition::Discarded(reason)) => push_bytes(text, discard_text(reason)),
-        Reason::Program { slot } => {
+        Reason::Program { slot, unsent } => {
             push_bytes(text, b"discarded by the program at slot ");
             push_number(text, slot);
+            push_unsent(text, unsent);
         }
     }
 }

@@ -6,9 +6,9 @@ ghost use Rattle.rules.specs.Systems.{is_served};
 ghost use Rattle.relay.specs.ByPrograms.{is_there};
 
 use crate::error::RelayError;
-use crate::explaining::Grounds;
+use crate::explaining::{Grounds, unsent_at};
 use crate::found::{Found, window_found, window_to_client, window_to_peer};
-use crate::running::{context_for, last_slot_over, live_for, program_for, run_over};
+use crate::running::{context_for, live_for, program_for, run_over, trace_over};
 use crate::shipped::are_shipped;
 use crate::step::{Step, discarded, relayed, stopped};
 use arrayvec::ArrayString;
@@ -379,8 +379,13 @@ impl Relay {
         let helpers = Lookup::new(live_for(&self.tables, moment, &meta.from, &mut Uncounted));
         let program = program_for(&self.client, &self.peer, &meta.from);
         let context = context_for(&meta.tx, &meta.from);
-        let slot = last_slot_over(program, &mut self.frame, &helpers, &context, n);
-        Grounds { ruled, slot }
+        let (slot, end) = trace_over(program, &mut self.frame, &helpers, &context, n);
+        let unsent = unsent_at(&meta.from, &helpers.live, &end);
+        Grounds {
+            ruled,
+            slot,
+            unsent,
+        }
     }
 
     /// Answers by the rules what a client's program passed on, as it is in the frame.
