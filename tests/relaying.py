@@ -7,7 +7,8 @@ with the shipped programs, with a program of the client's side that passes every
 examples/relay/: those that relay more by themselves give the same answers, and those that discard give none where they say
 so; and with those of tests/ipv4_programs/, which were shipped before there were IPv6 allocations: they relay the same over
 IPv4, and nothing over IPv6 that they have to relay themselves. With `--why` the reason of each answer is the model's: with
-programs that give the answers of the rules it is that of the rules, and else, where only the program discards, its exit.
+programs that give the answers of the rules it is that of the rules, and else, where only the program discards, its exit and the
+verdict there, or the first of what is missing.
 """
 
 import collections
@@ -233,17 +234,49 @@ def kinds_of(pairs):
 
 
 class Discarding(Rules):
-    """The rules, where the program of the peers' side discards some datagrams more, and exits there at a slot."""
+    """The rules, where the program of the peers' side discards some datagrams more, and exits there at a slot, for a reason."""
 
-    def __init__(self, discards, exit_slot=0):
-        super().__init__(USERS, slots=SLOTS)
-        self.discards, self.exit_slot = discards, exit_slot
+    def __init__(self, discards, exit_slot=0, unsent="verdict 0", **given):
+        super().__init__(USERS, slots=SLOTS, **given)
+        self.discards, self.why_discarded = discards, f"discarded by the program at slot {exit_slot}, {unsent}"
 
     def from_peer(self, transaction_id, slot, peer, data):
         answer = super().from_peer(transaction_id, slot, peer, data)
         if self.discards(peer, data):
-            raise Discarded(f"discarded by the program at slot {self.exit_slot}")
+            raise Discarded(self.why_discarded)
         return answer
+
+
+class Planning(Rules):
+    """The rules, where the program of the clients' side takes ChannelData and Binding requests itself, and exits there at a slot
+    with a verdict, and maybe with a window, the datagram's first byte, and a destination."""
+
+    def __init__(self, exit_slot, verdict, has_window, destination, **given):
+        super().__init__(USERS, slots=SLOTS, **given)
+        self.exit_slot, self.verdict, self.has_window, self.destination = exit_slot, verdict, has_window, destination
+
+    def unsent(self, own):
+        """Why nothing is sent for a client with this allocation, or none: the first that applies."""
+        family = family_of(self.destination[0]) if self.destination else None
+        faults = [(self.verdict != 2, f"verdict {self.verdict}"), (not self.has_window, "without a window"), (own is None, "without an allocation"),
+                  (family is None, "without a destination"), (own and own.family != family, "to another family")]
+        return next((why for applies, why in faults if applies), None)
+
+    def from_client(self, client, data):
+        ruled, answer = None, None
+        try:
+            answer = super().from_client(client, data)
+        except Discarded as discarded:
+            ruled = discarded.why
+        if len(data) < 2 or (data[0] < 0x40 and data[1] != BINDING):
+            if ruled:
+                raise Discarded(ruled)
+            return answer
+        own = self.of(client)
+        if why := self.unsent(own):
+            raise Discarded(ruled or f"discarded by the program at slot {self.exit_slot}, {why}")
+        self.why = "relayed"
+        return ("p", own.slot, self.destination, data[:1])
 
 
 class OverIpv4(Rules):
@@ -310,6 +343,18 @@ DESTINATION = """
 """
 # 192.0.2.9:5000, which has no permission
 ELSEWHERE = (bytes([192, 0, 2, 9]), 5000)
+# [2001:db8::7]:5000
+WIDE_DESTINATION = """
+    stw [r10-24], -2012020224
+    stw [r10-20], -1207107296
+    stdw [r10-16], 0
+    stw [r10-8], 0x07000000
+    mov r1, r6
+    mov r2, r10
+    add r2, -24
+    call 9
+"""
+ELSEWHERE6 = (bytes.fromhex("20010db8") + bytes(11) + b"\x07", 5000)
 END = "    mov r0, {verdict}\n    exit\n"
 LONGEST = 65_507
 # the text of the client's program, and the answer to a datagram of a client with an allocation; None is a window of it
@@ -339,6 +384,17 @@ WRITES = """
 end:
     exit
 """
+
+
+# programs that take ChannelData and Binding requests themselves, with what they plan for each: the verdict, whether there is a
+# window, and the destination
+TAKES = ("    ldxdw r2, [r1+0]\n    ldxdw r3, [r1+8]\n    mov r4, r2\n    add r4, 2\n    mov r0, 1\n    jgt r4, r3, other\n"
+         "    ldxb r5, [r2+0]\n    jge r5, 64, own\n    ldxb r5, [r2+1]\n    jeq r5, 1, own\nother:\n    exit\nown:\n    mov r6, r1\n")
+FIRST_BYTE = WINDOW.format(front=64, length=1)
+PLANS = [
+    ("", 0, False, None), ("", 2, False, None), (FIRST_BYTE, 2, True, None), (DESTINATION, 2, False, ELSEWHERE),
+    (FIRST_BYTE + DESTINATION, 2, True, ELSEWHERE), (FIRST_BYTE + WIDE_DESTINATION, 2, True, ELSEWHERE6), (WIDE_DESTINATION, 2, False, ELSEWHERE6),
+    (FIRST_BYTE + DESTINATION, 3, True, ELSEWHERE), (FIRST_BYTE + WIDE_DESTINATION, 255, True, ELSEWHERE6), (FIRST_BYTE, 2 ** 31 - 1, True, None)]
 
 
 def allocated():
@@ -371,6 +427,25 @@ def reasons(folder, pairs, pairs6):
     for kind, events in (("one after another over IPv6", systematic6()), ("seeded over both families", pairs6)):
         for name, words in (("the shipped programs", []), ("a program that passes all on", ["--client", folder / "pass_all.bpf"])):
             yield f"{kind}, {name} with reasons", explained(events, Rules(USERS, slots=SLOTS, ip6=IP6)), [*ip6, *words]
+    for kind, events, given, words in (("IPv4", systematic(), {}, []), ("IPv6", systematic6(), {"ip6": IP6}, ip6)):
+        yield from planned_reasons(folder, kind, events + bindings(), given, words)
+
+
+def bindings():
+    """Binding requests of a client with an allocation and of one without, as the systematic events leave them."""
+    return [(line_of(("c", 1000, bytes(12), client, message(BINDING, bytes(12), []))), None) for client in (CLIENTS[0], CLIENTS[3])]
+
+
+def planned_reasons(folder, kind, events, given, words):
+    """The same, with programs that take datagrams themselves, of a client and of peers, and send nothing where something is missing."""
+    for number, (text, verdict, has_window, destination) in enumerate(PLANS):
+        path = assembled(folder, f"plans_{number}", TAKES + text + END.format(verdict=verdict))
+        rules = Planning(path.stat().st_size // 8 - 1, verdict, has_window, destination, **given)
+        yield f"{kind}, plan {number} with reasons", explained(events, rules), ["--client", path, *words]
+    for verdict, unsent in ((0, "verdict 0"), (1, "verdict 1"), (2, "without a window"), (-1, f"verdict {2 ** 64 - 1}")):
+        path = assembled(folder, "verdict_of_peers", END.format(verdict=verdict))
+        rules = Discarding(lambda peer, data: True, 1, unsent, **given)
+        yield f"{kind}, verdict {verdict} of peers with reasons", explained(events, rules), ["--peer", path, *words]
 
 
 def odd_programs(folder):

@@ -12,6 +12,7 @@ use relay::{Alias, Confinement, Relay, ReplayError};
 use rows::row::{Row, address, bytes, count};
 use setup::sample;
 use std::alloc::Global;
+use std::net::Ipv6Addr;
 
 /// The slots of a relay.
 const SLOTS: usize = 2;
@@ -66,7 +67,10 @@ fn confinement(alloc: Global, row: &Row<'_>) -> Result<Option<Confinement>> {
 
 /// Makes the relay of a row.
 fn relay_of(alloc: Global, row: &Row<'_>) -> Result<Relay> {
-    let config: Config = sample::config(alloc, [203, 0, 113, 1], SLOTS)?;
+    let mut config: Config = sample::config(alloc, [203, 0, 113, 1], SLOTS)?;
+    if let Some(text) = row.get("ip6") {
+        config.ip6 = Some(text.parse::<Ipv6Addr>()?.octets());
+    }
     let client = program(alloc, row, "client", CLIENT)?;
     let peer = program(alloc, row, "peer", PEER)?;
     let mut relay = Relay::new(alloc, config, client, peer)?;
