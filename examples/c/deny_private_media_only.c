@@ -1,5 +1,5 @@
 /* A program for clients' datagrams, of two rules in one: what media_only.c discards is discarded, what deny_private.c discards too, and
-   the rest is left to the rules of the relay. Each has an exit of its own, so that `replay --why` shows which one discards. */
+   the rest is left to the rules of the relay. Each has a verdict of its own, so that `replay --why` shows which one discards. */
 #include "deny.h"
 #include "media.h"
 #include "private.h"

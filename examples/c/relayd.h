@@ -47,8 +47,8 @@ enum verdict {
 };
 
 /* Ends the run with a verdict of 3 to 255, a constant, which discards as DISCARD does, and has an exit of its own. `replay --why` names
-   the slot of the exit at which a program has discarded what the rules would not, and not the verdict. The compiler leads all returns of
-   a function to one exit, so that `return 3` and `return 4` have one slot; `return DISCARD_AS(3)` and `return DISCARD_AS(4)` have two. */
+   the verdict with which a program has discarded what the rules would not, and the slot of the exit. The compiler leads all returns of a
+   function to one exit, so that `return 3` and `return 4` have one slot; `return DISCARD_AS(3)` and `return DISCARD_AS(4)` have two. */
 #ifdef __clang__
 #define EXIT_AS "r0 = %0\n\texit"
 #else
