@@ -17,6 +17,7 @@ STUCK = bytes.fromhex("bf20000000000000 9500000000000000")
 ACCEPTED = "accepted 2 instructions\n"
 TRACED = "0 mov r0, 2\n1 exit\nexit 2\nwindow none\ndestination none\n"
 KNOWN = "0 mov r0, 2               ; r1 context\n1 exit                    ; r0 =2; r1 context\n"
+COST = "at most 2 steps a run\n"
 LONGEST = 65507
 # the words, the status, standard output, standard error
 CASES = [
@@ -28,7 +29,7 @@ CASES = [
     (["trace", "missing"], 3, "", "cannot read missing\n"),
     (["verify", "folder"], 3, "", "cannot read folder\n"),
     (["trace", "folder"], 3, "", "cannot read folder\n"),
-    (["explain", "good"], 0, KNOWN, ""),
+    (["explain", "good"], 0, KNOWN, COST),
     (["explain", "good", "--slot", "1"], 0, KNOWN.splitlines(True)[1], ""),
     (["explain", "good", "--slot", "2"], 0, "2 ; no instruction begins here\n", ""),
     (["explain", "stuck"], 1, "0 mov r0, r2              ; refused V5: reads r2, which holds nothing\n", ""),
@@ -61,7 +62,7 @@ READ = [
     (["verify", "-"], "good", 0, ACCEPTED, ""),
     (["verify", "-"], "empty", 1, "refused E1\n", explained("-")),
     (["verify", "-"], "folder", 3, "", "cannot read -\n"),
-    (["explain", "-"], "good", 0, KNOWN, ""),
+    (["explain", "-"], "good", 0, KNOWN, COST),
     (["trace", "-", "--data", "00"], "good", 0, TRACED, ""),
     (["disassemble", "-"], "good", 0, "mov r0, 2\nexit\n", ""),
     (["assemble", "-", "out"], "text", 0, "wrote 16 bytes\n", ""),

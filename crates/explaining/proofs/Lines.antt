@@ -1,5 +1,5 @@
 -- Texts that are appended, and the lines that they have.
-use Rattle.std.proofs.Common.{◌≡◌, ℕ, zero, suc, ◌+◌, ◌-◌, ◌<◌, Bool, true, false, not, ◌||◌, cond, List, [], ◌∷◌, ◌++◌, Option, None, Some, Result, Ok, Err, OnOk, IfOk, inl, inr, ◌⊎◌, ◌≤◌, length, take, refl, sym, ap, ap₂, ◌∙◌, subst, arith, append-nil, append_assoc}
+use Rattle.std.proofs.Common.{◌≡◌, ℕ, zero, suc, ◌+◌, ◌-◌, ◌<◌, Bool, true, false, not, ◌||◌, cond, List, [], ◌∷◌, ◌++◌, Option, None, Some, Result, Ok, Err, OnOk, IfOk, inl, inr, ◌≤◌, length, take, refl, sym, ap, ap₂, ◌∙◌, subst, arith, append-nil, append_assoc}
 use Rattle.std.specs.Prelude.{codes, slice_index_or}
 use Rattle.std.specs.List.{list_any, before_first, position_or_len, repeat}
 use Rattle.std.specs.Io.KnownBytes.{Appends, Keeps}
@@ -13,16 +13,16 @@ use Rattle.verifier.specs.declared.refusal.Refusal.{Refusal}
 use Rattle.verifier.specs.declared.refusal.Refusal.TheVariants.{Stuck, Budget, Memory}
 use Rattle.explaining.specs.Paths.{IsStatePath, ShowsRefusal}
 use Rattle.insn.specs.Encoding.{Encodes}
-use Rattle.insn.specs.Refusal.{IsRefused}
 use Rattle.insn.specs.declared.instruction.Insn.{Insn}
-use Rattle.insn.specs.declared.refusal.DecodeError.{DecodeError}
 use Rattle.interval.specs.declared.interval.Interval.{Interval}
 use Rattle.semantics.specs.Slots.{fetch}
 use Rattle.semantics.specs.declared.fetching.Fetched.{Fetched}
 use Rattle.semantics.specs.declared.fetching.Fetched.TheVariants.{Begins, Inside, Past}
 use Rattle.verifier.specs.declared.walk.Pending.{Pending}
 use Rattle.verifier.specs.declared.walk.Verified.{Verified}
-use Rattle.explaining.specs.Lines.{is_newline, step_text, note_text, line_text, step_begun, step_at, steps_of, made_of, refusal_slot, BeginLines, AppendsLines, AppendsText, IsRest, IsRefusalOf, HasWalked, ExplainsRefusal, ExplainsFile}
+use Rattle.explaining.specs.Lines.{is_newline, step_text, note_text, line_text, step_begun, step_at, steps_of, made_of, refusal_slot, BeginLines, AppendsLines, AppendsText, IsRest, IsRefusalOf, HasWalked, ExplainsRefusal, ExplainsCode, ExplainsFile}
+use Rattle.explaining.specs.declared.file.Explained.{Explained}
+use Rattle.explaining.specs.declared.file.Explained.TheVariants.{Accepted, Refused}
 
 appends_then : (a b c : Option (List ℕ)) (s t : List ℕ) → Appends a b s → Appends b c t → Appends a c (s ++ t)
 appends_then None b c s t p q = tt
@@ -179,28 +179,32 @@ keeps_appended (Some xs) None c t p q = absurd p
 keeps_appended (Some xs) (Some ys) None t p q = absurd q
 keeps_appended (Some xs) (Some ys) (Some zs) t p q = q ∙ p
 
-pub kept_explained : (file : List ℕ) (a b c : Option (List ℕ)) (status : ℕ) → Keeps b c → ExplainsFile file a b status → ExplainsFile file a c status
-kept_explained file a b c status keeps explains refused = by (explains refused) where
-  by : ((code : List Insn) × (Encodes code file × ExplainsRefusal code a b)) ⊎ ((e : DecodeError) × IsRefused file e) → ((code : List Insn) × (Encodes code file × ExplainsRefusal code a c)) ⊎ ((e : DecodeError) × IsRefused file e)
-  by (inl (code, (encodes, e))) = inl (
-    code,
-    (
-      encodes,
-      record {
-        refusal = e.refusal;
-        is_refusal = e.is_refusal;
-        path = e.path;
-        is_path = e.is_path;
-        shows = e.shows;
-        lines = e.lines;
-        rest = e.rest;
-        begin_lines = e.begin_lines;
-        is_rest = e.is_rest;
-        appends = keeps_appended a b c (e.lines ++ e.rest) e.appends keeps;
-      },
-    ),
-  )
-  by (inr fault) = inr fault
+-- the lines of a file, from those of the program that it encodes, or from why it encodes none
+pub code_lines : (code : List Insn) (file : List ℕ) (a b : Option (List ℕ)) → Encodes code file → (found : Explained) → ExplainsCode code a b found → ExplainsFile file a b found
+code_lines code file a b encodes (Accepted cost) explains = tt
+code_lines code file a b encodes Refused explains = inl (code, (encodes, explains))
+
+pub kept_explained : (file : List ℕ) (a b c : Option (List ℕ)) (found : Explained) → Keeps b c → ExplainsFile file a b found → ExplainsFile file a c found
+kept_explained file a b c (Accepted cost) keeps explains = tt
+kept_explained file a b c Refused keeps (inl (code, (encodes, e))) = inl (
+  code,
+  (
+    encodes,
+    record {
+      refusal = e.refusal;
+      is_refusal = e.is_refusal;
+      path = e.path;
+      is_path = e.is_path;
+      shows = e.shows;
+      lines = e.lines;
+      rest = e.rest;
+      begin_lines = e.begin_lines;
+      is_rest = e.is_rest;
+      appends = keeps_appended a b c (e.lines ++ e.rest) e.appends keeps;
+    },
+  ),
+)
+kept_explained file a b c Refused keeps (inr fault) = inr fault
 
 pub if_value : {A E : Type 0} (P Q : A → Type 0) (r : Result A E) → IfOk r P → ((x : A) → P x → Q x) → IfOk r Q
 if_value P Q (Ok x) p f = f x p

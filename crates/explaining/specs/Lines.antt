@@ -22,6 +22,8 @@ use Rattle.verifier.specs.declared.refusal.Refusal.{Refusal}
 use Rattle.verifier.specs.declared.refusal.Refusal.TheVariants.{Stuck, Budget, Memory}
 use Rattle.verifier.specs.declared.walk.Pending.{Pending}
 use Rattle.explaining.specs.Paths.{IsStatePath, ShowsRefusal}
+use Rattle.explaining.specs.declared.file.Explained.{Explained}
+use Rattle.explaining.specs.declared.file.Explained.TheVariants.{Accepted, Refused}
 
 abbrev pub is_newline : ℕ → Bool
 is_newline byte = byte == 10
@@ -109,10 +111,12 @@ pub record ExplainsRefusal (code : List Insn) (old new : Option (List ℕ)) : Ty
   pub is_rest : IsRest refusal rest
   pub appends : Appends old new (lines ++ rest)
 
--- where the status is that of a refusal, the program is explained
-abbrev pub ExplainsCode : List Insn → Option (List ℕ) → Option (List ℕ) → ℕ → Type 0
-ExplainsCode code old new status = status ≡ 1 → ExplainsRefusal code old new
+-- where the program is refused, it is explained
+abbrev pub ExplainsCode : List Insn → Option (List ℕ) → Option (List ℕ) → Explained → Type 0
+ExplainsCode code old new (Accepted cost) = Unit {0}
+ExplainsCode code old new Refused = ExplainsRefusal code old new
 
 -- so is that of a file, unless it encodes no program
-abbrev pub ExplainsFile : List ℕ → Option (List ℕ) → Option (List ℕ) → ℕ → Type 0
-ExplainsFile file old new status = status ≡ 1 → ((code : List Insn) × (Encodes code file × ExplainsRefusal code old new)) ⊎ ((e : DecodeError) × IsRefused file e)
+abbrev pub ExplainsFile : List ℕ → Option (List ℕ) → Option (List ℕ) → Explained → Type 0
+ExplainsFile file old new (Accepted cost) = Unit {0}
+ExplainsFile file old new Refused = ((code : List Insn) × (Encodes code file × ExplainsRefusal code old new)) ⊎ ((e : DecodeError) × IsRefused file e)

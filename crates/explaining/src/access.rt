@@ -1,16 +1,19 @@
 //! The bytes that an instruction reads or writes, and why it may not, as text.
 
-ghost use Rattle.std.specs.Prelude.{◌<◌};
+ghost use Rattle.std.specs.Prelude.{◌≡◌, ◌<◌, ◌+ℤ◌, ◌-ℤ◌, pos, IfSome};
+ghost use Rattle.semantics.specs.Access.{headroom_first};
 ghost use Rattle.semantics.specs.declared.limits.TheConstants.{GROUPS};
+ghost use Rattle.absstate.specs.AbstractStates.{abstract_at, low_of, high_of};
+ghost use Rattle.explaining.specs.Remedies.{IsRemedy};
 
 use crate::changes::{REGISTERS, stack_place};
-use crate::text::{Known, Signed, State};
+use crate::text::{DatagramPlace, Known, Signed, State};
 use absstate::{AbstractValue, Anchor, Marks};
 use insn::{Insn, Reg};
 use interval::Interval;
 use semantics::{
-    Argument, GROUP_BYTES, GROUPS, HEADROOM_FIRST, Helper, RecordForm, STACK_BYTES, Signature,
-    TAILROOM,
+    Argument, GROUP_BYTES, GROUPS, HEADROOM_FIRST, Helper, MAX_DATAGRAM, MAX_OFFSET, RecordForm,
+    STACK_BYTES, Signature, TAILROOM,
 };
 use std::alloc::AllocError;
 
@@ -85,9 +88,73 @@ fn push_proved(note: &mut String, proved: i64) -> Result<(), AllocError> {
     }
 }
 
+/// Returns the least place of an anchor.
+fn low_of(anchor: Anchor) -> i32
+    ensures { result ≡ low_of anchor }
+{
+    match anchor {
+        Anchor::First => 0,
+        Anchor::Made { low, .. } => low,
+    }
+}
+
+/// Returns the greatest place of an anchor.
+fn high_of(anchor: Anchor) -> i32
+    ensures { result ≡ high_of anchor }
+{
+    match anchor {
+        Anchor::First => 0,
+        Anchor::Made { high, .. } => high,
+    }
+}
+
+/// Returns the place at an offset from another one.
+fn place_from(place: i32, offset: i32) -> i64
+    ensures { result ≡ (place +ℤ offset) }
+{
+    i64::from(place) + i64::from(offset)
+}
+
+/// Returns the least place at an offset from an anchor.
+pub(crate) fn least_place(anchor: Anchor, offset: i32) -> i64
+    ensures { result ≡ (low_of anchor +ℤ offset) }
+{
+    place_from(low_of(anchor), offset)
+}
+
+/// Returns the greatest place at an offset from an anchor.
+pub(crate) fn greatest_place(anchor: Anchor, offset: i32) -> i64
+    ensures { result ≡ (high_of anchor +ℤ offset) }
+{
+    place_from(high_of(anchor), offset)
+}
+
+/// Returns the offset from an anchor at which the headroom begins.
+fn headroom_from(anchor: Anchor) -> i64
+    ensures { result ≡ (headroom_first -ℤ low_of anchor) }
+{
+    HEADROOM_FIRST - i64::from(low_of(anchor))
+}
+
+/// Returns the offset of the first byte of an access.
+fn first_of(offset: i32, displacement: i16) -> i64
+    ensures { result ≡ (offset +ℤ displacement) }
+{
+    i64::from(offset) + i64::from(displacement)
+}
+
+/// Returns the offset after the last byte of an access.
+fn end_of(offset: i32, displacement: i16, bytes: u32) -> i64
+    ensures { result ≡ (offset +ℤ displacement +ℤ pos bytes) }
+{
+    i64::from(offset) + i64::from(displacement) + i64::from(bytes)
+}
+
 impl Access {
     /// Returns what is known of the register whose value points to the bytes.
-    fn pointer(self, state: &State) -> AbstractValue<Interval> {
+    fn pointer(self, state: &State) -> AbstractValue<Interval>
+        ensures { result ≡ abstract_at state.now.registers self.base }
+    {
         state.registers[self.base.number() as usize]
     }
 
@@ -140,7 +207,38 @@ impl Access {
         write!(note, "{base} is {known}, which is no pointer")
     }
 
-    /// Appends the bounds that an access to the datagram or the tailroom exceeds.
+    /// Returns the place whose comparison with the end would have helped an access to the datagram: the one at which it ends. `None`
+    /// where the access begins before the headroom, where no pointer may lie as far away, or where no datagram is as long.
+    fn remedy(self, state: &State) -> Option<DatagramPlace>
+        ensures { IfSome result (IsRemedy state.now self.base self.displacement self.bytes) }
+    {
+        let AbstractValue::Data { anchor, offset } = self.pointer(state) else {
+            return None;
+        };
+        let bytes = u32::try_from(self.bytes).ok()?;
+        let end = i32::try_from(end_of(offset, self.displacement, bytes)).ok()?;
+        let is_after_headroom = headroom_from(anchor) <= first_of(offset, self.displacement);
+        let is_near = greatest_place(anchor, end) <= MAX_OFFSET;
+        let is_short = least_place(anchor, end) <= MAX_DATAGRAM as i64;
+        if is_after_headroom && is_near && is_short {
+            Some(DatagramPlace {
+                anchor,
+                offset: end,
+            })
+        } else {
+            None
+        }
+    }
+
+    /// Appends the comparison that would have helped an access to the datagram, if one would have.
+    fn push_remedy(self, note: &mut String, state: &State) -> Result<(), AllocError> {
+        match self.remedy(state) {
+            Some(place) => write!(note, ", compare {place} with the end"),
+            None => Ok(()),
+        }
+    }
+
+    /// Appends the bounds that an access to the datagram or the tailroom exceeds, and the comparison that would have helped.
     pub(crate) fn push_bounds(self, note: &mut String, state: &State) -> Result<(), AllocError> {
         match self.pointer(state) {
             AbstractValue::Data { anchor, .. } => {
@@ -150,10 +248,10 @@ impl Access {
                 };
                 let headroom = HEADROOM_FIRST - i64::from(low);
                 if self.first(state) < headroom {
-                    write!(note, ", the headroom begins at {headroom}")
-                } else {
-                    push_proved(note, proved)
+                    return write!(note, ", the headroom begins at {headroom}");
                 }
+                push_proved(note, proved)?;
+                self.push_remedy(note, state)
             }
             _ => write!(note, ", the tailroom is +0 to +{TAILROOM}"),
         }

@@ -5,13 +5,17 @@ ghost use Rattle.insn.specs.Encoding.{slot_count};
 ghost use Rattle.insn.specs.declared.decoding.TheConstants.{MAX_SLOTS};
 ghost use Rattle.insn.specs.declared.refusal.DecodeError.TheVariants.{Memory};
 ghost use Rattle.loader.specs.declared.loaded.TheConstants.{BUDGET};
+ghost use Rattle.verifier.specs.Layout.{IsLaidOut};
 ghost use Rattle.verifier.specs.Refusing.{IsVerdict};
 ghost use Rattle.interval.specs.Intervals.{interval_ops};
 ghost use Rattle.explaining.specs.Explained.{IsExplained, IsExplainedCode};
+ghost use Rattle.explaining.specs.LongestPaths.{IsCostOf};
+ghost use Rattle.explaining.specs.declared.file.Explained.TheVariants.{Refused};
 ghost use Rattle.explaining.specs.Lines.{ExplainsCode, ExplainsFile, HasWalked};
 ghost use Rattle.explaining.specs.Paths.{IsStatePath, ShowsRefusal};
 
 use crate::changes::state_note;
+use crate::cost::{Cost, cost_of};
 use crate::error::ExplainError;
 use crate::printing::{
     is_reached, print_busiest, print_fault, print_firsts, print_line, print_refusal, print_steps,
@@ -26,6 +30,15 @@ use std::io::Write;
 use std::marker::Brand;
 use std::sync::ledger::{Blank, Ledger};
 use verifier::{Pending, Progress, Refusal, Steps, Walk};
+
+/// What an explanation has found of a file.
+#[derive(Clone, Copy, Debug, PartialEq, Eq)]
+pub enum Explained {
+    /// The loader accepts it. A run of its program costs so much at most.
+    Accepted(Cost),
+    /// The loader refuses it.
+    Refused,
+}
 
 /// Searches a program with the budget, and counts its steps.
 fn searched_by<L: Ledger>(
@@ -47,7 +60,7 @@ fn searched_by<L: Ledger>(
 }
 
 /// Searches a program with the budget; nothing counts its steps.
-fn searched(alloc: Global, code: &[Insn]) -> Result<Explanation, AllocError>
+pub(crate) fn searched(alloc: Global, code: &[Insn]) -> Result<Explanation, AllocError>
     requires few { slot_count code.now ≤ MAX_SLOTS }
     ensures verdict { IfOk result (λ x. IsVerdict code.now BUDGET x.verdict) }
     ensures path { IfOk result (λ x. IsStatePath interval_ops code.now x.path.items) }
@@ -135,20 +148,23 @@ fn print_states<W: Write>(
     }
 }
 
-/// Prints what is known at the slots of an accepted program, or the states at one of them.
+/// Prints what is known at the slots of an accepted program, or the states at one of them, and returns what a run of it costs.
 fn print_accepted<W: Write>(
     alloc: Global,
     program: &Program,
     firsts: &[Pending<Interval>],
     slot: Option<usize>,
     out: &mut W,
-) -> Result<(), ExplainError>
+) -> Result<Cost, ExplainError>
     requires few { slot_count program.now ≤ MAX_SLOTS }
+    requires laid_out { IsLaidOut program.now }
+    ensures { IfOk result (IsCostOf program.now) }
 {
     match slot {
-        None => print_firsts(alloc, program, firsts, out),
-        Some(slot) => print_states(alloc, program, firsts, slot, out),
+        None => print_firsts(alloc, program, firsts, out)?,
+        Some(slot) => print_states(alloc, program, firsts, slot, out)?,
     }
+    Ok(cost_of(alloc, program)?)
 }
 
 /// Explains a program.
@@ -157,9 +173,9 @@ fn explain<W: Write>(
     code: &[Insn],
     slot: Option<usize>,
     out: &mut W,
-) -> Result<u8, ExplainError>
+) -> Result<Explained, ExplainError>
     requires few { slot_count code.now ≤ MAX_SLOTS }
-    ensures status { IfOk result (IsExplainedCode code.now) }
+    ensures found { IfOk result (IsExplainedCode code.now) }
     ensures lines { IfOk result (ExplainsCode code.now (W.contents out.old) (W.contents out.new)) }
 {
     let Explanation {
@@ -171,8 +187,8 @@ fn explain<W: Write>(
     let program = Program::new(alloc, code)?;
     let refusal = match verdict {
         Ok(_) => {
-            print_accepted(alloc, &program, &firsts, slot, out)?;
-            return Ok(0);
+            let cost = print_accepted(alloc, &program, &firsts, slot, out)?;
+            return Ok(Explained::Accepted(cost));
         }
         Err(Refusal::Memory { .. }) => return Err(ExplainError::Memory),
         Err(refusal) => refusal,
@@ -182,7 +198,7 @@ fn explain<W: Write>(
     if let Refusal::Budget { .. } = refusal {
         print_busiest(&mut made, out)?;
     }
-    Ok(1)
+    Ok(Explained::Refused)
 }
 
 /// Explains why a file encodes no program.
@@ -190,26 +206,26 @@ fn explain_fault<W: Write>(
     file: &[u8],
     refusal: DecodeError,
     out: &mut W,
-) -> Result<u8, ExplainError>
-    ensures { IfOk result (λ status. (status ≡ 1) × (refusal ≡ Memory → ⊥)) }
+) -> Result<Explained, ExplainError>
+    ensures { IfOk result (λ found. (found ≡ Refused) × (refusal ≡ Memory → ⊥)) }
 {
     match refusal {
         DecodeError::Memory => Err(ExplainError::Memory),
         refusal => {
             print_fault(file, refusal, out)?;
-            Ok(1)
+            Ok(Explained::Refused)
         }
     }
 }
 
-/// Explains the file, and returns the status.
+/// Explains the file.
 fn print_explanation<W: Write>(
     alloc: Global,
     file: &[u8],
     slot: Option<usize>,
     out: &mut W,
-) -> Result<u8, ExplainError>
-    ensures status { IfOk result (IsExplained file.now) }
+) -> Result<Explained, ExplainError>
+    ensures found { IfOk result (IsExplained file.now) }
     ensures lines { IfOk result (ExplainsFile file.now (W.contents out.old) (W.contents out.new)) }
 {
     match decode(alloc, file) {
@@ -218,8 +234,7 @@ fn print_explanation<W: Write>(
     }
 }
 
-/// Prints what the verifier knew of the program in a file, and returns the exit status: 0 where the loader accepts the file, 1
-/// where it refuses it.
+/// Prints what the verifier knew of the program in a file, and returns whether the loader accepts it.
 ///
 /// - Of an accepted program, each instruction with the state of the first path that reached it; with a slot, each state from
 ///   which a step was made there.
@@ -232,11 +247,11 @@ pub fn explain_file<W: Write>(
     file: &[u8],
     slot: Option<usize>,
     out: &mut W,
-) -> Result<u8, ExplainError>
-    ensures status { IfOk result (IsExplained file.now) }
+) -> Result<Explained, ExplainError>
+    ensures found { IfOk result (IsExplained file.now) }
     ensures lines { IfOk result (ExplainsFile file.now (W.contents out.old) (W.contents out.new)) }
 {
-    let status = print_explanation(alloc, file, slot, out)?;
+    let found = print_explanation(alloc, file, slot, out)?;
     out.flush().map_err(|_| ExplainError::Output)?;
-    Ok(status)
+    Ok(found)
 }

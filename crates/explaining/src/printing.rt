@@ -168,7 +168,7 @@ fn refusal_note(
 }
 
 /// Returns the slot that a refusal names.
-fn slot_of(refusal: Refusal) -> usize
+pub(crate) fn slot_of(refusal: Refusal) -> usize
     ensures { result ≡ refusal_slot refusal }
 {
     match refusal {

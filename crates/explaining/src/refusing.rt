@@ -1,11 +1,11 @@
 //! Why a step is refused, in words, with the numbers that decided.
 
-use crate::access::access_of;
+use crate::access::{access_of, greatest_place, least_place};
 use crate::text::{Known, State};
-use absstate::AbstractValue;
+use absstate::{AbstractValue, Anchor};
 use insn::{AluOp, Insn, Operand, Reg, Width, imm_word};
 use interval::{Bounds, Domain, Interval};
-use semantics::{Argument, Helper, Reason};
+use semantics::{Argument, Helper, MAX_OFFSET, Reason};
 use std::alloc::AllocError;
 
 /// Returns the registers that an instruction which is no call reads, in this order.
@@ -72,27 +72,56 @@ const NO_SUM: &str =
 /// What ends the reason of a number to which a pointer is added.
 const EXCHANGED: &str = ", the pointer has to be the left operand";
 
-/// Returns why a sum or a difference isn't known to be a pointer.
-fn why_no_sum(
+/// What ends the reason of a sum of the end and a number.
+const END_STAYS: &str = ", the end is not moved, move the place that is compared with it";
+
+/// What ends the reason of a pointer into the stack to which a number of several is added.
+const NOT_EXACT: &str =
+    ", a number that is not known exactly, a pointer into the stack is moved by a constant";
+
+/// Appends that a number may lead too far, and the greatest one that doesn't.
+fn push_far(note: &mut String, op: AluOp, anchor: Anchor, offset: i32) -> Result<(), AllocError> {
+    let most = match op {
+        AluOp::Add => MAX_OFFSET.saturating_sub(greatest_place(anchor, offset)),
+        _ => MAX_OFFSET.saturating_add(least_place(anchor, offset)),
+    };
+    write!(
+        note,
+        ", which may lead more than {MAX_OFFSET} bytes away, a number of at most {most} does not"
+    )
+}
+
+/// Appends why a number doesn't move a pointer into the stack.
+fn push_no_place(note: &mut String, by: Interval) -> Result<(), AllocError> {
+    let Bounds { lo, hi } = by.bounds();
+    if lo == hi {
+        write!(note, ", which leads more than {MAX_OFFSET} bytes away")
+    } else {
+        note.push_str(NOT_EXACT)
+    }
+}
+
+/// Appends why a sum or a difference on 64 bits isn't known to be a pointer.
+fn push_no_sum(
+    note: &mut String,
+    state: &State,
     op: AluOp,
-    pointer: AbstractValue<Interval>,
-    by: AbstractValue<Interval>,
-) -> &'static str {
-    match (pointer, by) {
-        (AbstractValue::Scalar(_), AbstractValue::Stack(_)) if op == AluOp::Add => EXCHANGED,
-        (AbstractValue::Scalar(_), AbstractValue::Data { .. }) if op == AluOp::Add => EXCHANGED,
-        (AbstractValue::Stack(_), AbstractValue::Scalar(by)) => {
-            let Bounds { lo, hi } = by.bounds();
-            if lo == hi {
-                ", which leads more than 1048576 bytes away"
-            } else {
-                ", a number that is not known exactly"
-            }
+    dst: Reg,
+    operand: Operand,
+) -> Result<(), AllocError> {
+    match (value_in(state, dst), value_of(state, Width::W64, operand)) {
+        (AbstractValue::Scalar(_), AbstractValue::Stack(_)) if op == AluOp::Add => {
+            note.push_str(EXCHANGED)
         }
-        (AbstractValue::Data { .. }, AbstractValue::Scalar(_)) => {
-            ", which may lead more than 1048576 bytes away"
+        (AbstractValue::Scalar(_), AbstractValue::Data { .. }) if op == AluOp::Add => {
+            note.push_str(EXCHANGED)
         }
-        _ => NO_SUM,
+        (AbstractValue::Stack(_), AbstractValue::Scalar(by)) => push_no_place(note, by),
+        (AbstractValue::Data { anchor, offset }, AbstractValue::Scalar(_)) => {
+            push_far(note, op, anchor, offset)
+        }
+        (AbstractValue::End, AbstractValue::Scalar(_)) => note.push_str(END_STAYS),
+        _ => note.push_str(NO_SUM),
     }
 }
 
@@ -105,13 +134,13 @@ fn push_arithmetic(note: &mut String, state: &State, insn: Insn) -> Result<(), A
             dst,
             operand,
         } => {
-            let pointer = value_in(state, dst);
-            let by = value_of(state, width, operand);
-            push_operands(note, op, width, (Known(pointer), Known(by)))?;
-            note.push_str(match (op, width) {
-                (AluOp::Add | AluOp::Sub, Width::W64) => why_no_sum(op, pointer, by),
-                _ => NO_SUM,
-            })
+            let left = Known(value_in(state, dst));
+            let right = Known(value_of(state, width, operand));
+            push_operands(note, op, width, (left, right))?;
+            match (op, width) {
+                (AluOp::Add | AluOp::Sub, Width::W64) => push_no_sum(note, state, op, dst, operand),
+                _ => note.push_str(NO_SUM),
+            }
         }
         Insn::Mov { width, operand, .. } => {
             let known = Known(value_of(state, width, operand));

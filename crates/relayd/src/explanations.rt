@@ -2,11 +2,12 @@
 
 use crate::options::{CommandError, unread};
 use crate::{REFUSED, note_object_file, read_whole};
-use explaining::{ExplainError, explain_file};
+use explaining::{ExplainError, Explained, explain_file};
 use std::io::{self, BufWriter, Write};
 use std::rt::Files;
 
-/// Prints what the verifier knew of the program in a file, or of the states at one slot, and returns the exit status.
+/// Prints what the verifier knew of the program in a file, or of the states at one slot, and returns the exit status. Without a
+/// slot, what a run of an accepted program costs is printed to `err`.
 fn print_explanation<'a, R: Files + Input + Print + AllocGlobal, E: Write>(
     rt: &R,
     err: &mut E,
@@ -21,14 +22,36 @@ fn print_explanation<'a, R: Files + Input + Print + AllocGlobal, E: Write>(
         return Err(CommandError::Memory);
     };
     match explain_file(rt.alloc(), &file, slot, &mut out) {
-        Ok(status) => {
-            if status == REFUSED {
-                note_object_file(err, &file);
+        Ok(Explained::Accepted(cost)) => {
+            if slot.is_none() {
+                let _ = writeln!(err, "{cost}");
             }
-            Ok(status)
+            Ok(0)
         }
-        Err(ExplainError::Output) => Err(CommandError::Output),
-        Err(ExplainError::Memory) => Err(CommandError::Memory),
+        Ok(Explained::Refused) => {
+            note_object_file(err, &file);
+            Ok(REFUSED)
+        }
+        Err(error) => Err(unexplained(error)),
+    }
+}
+
+/// Returns the error of a command that prints what the verifier knew.
+fn unexplained<'a>(error: ExplainError) -> CommandError<'a> {
+    match error {
+        ExplainError::Output => CommandError::Output,
+        ExplainError::Memory => CommandError::Memory,
+    }
+}
+
+/// Prints the line of a fault to `err`, if a command has one, and returns the exit status.
+fn status_of<E: Write>(err: &mut E, ended: Result<u8, CommandError<'_>>) -> u8 {
+    match ended {
+        Ok(status) => status,
+        Err(fault) => {
+            let _ = writeln!(err, "{fault}");
+            fault.status()
+        }
     }
 }
 
@@ -39,11 +62,6 @@ pub(crate) fn explain<R: Files + Input + Print + AllocGlobal, E: Write>(
     path: &str,
     slot: Option<usize>,
 ) -> u8 {
-    match print_explanation(rt, err, path, slot) {
-        Ok(status) => status,
-        Err(fault) => {
-            let _ = writeln!(err, "{fault}");
-            fault.status()
-        }
-    }
+    let ended = print_explanation(rt, err, path, slot);
+    status_of(err, ended)
 }

@@ -2,7 +2,7 @@
 
 use crate::agreement::{Seeded, check_agreement, datagrams};
 use crate::expansion::{Named, expanded};
-use crate::explanations::explained;
+use crate::explanations::{cost, explained};
 use crate::frames::Frames;
 use crate::kinds::Kind;
 use crate::known::Known;
@@ -108,6 +108,7 @@ impl Checks {
             Kind::Report => reported(alloc, row),
             Kind::Order => ordered(alloc, row),
             Kind::Explain => explained(alloc, row),
+            Kind::Cost => cost(alloc, row),
         }
     }
 

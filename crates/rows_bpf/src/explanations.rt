@@ -2,12 +2,12 @@
 
 use crate::line::Row;
 use crate::program::{file_of, joined};
-use anyhow::Result;
-use explaining::explain_file;
+use anyhow::{Result, bail};
+use explaining::{Explained, explain_file};
 use std::alloc::Global;
 
-/// Explains a file, at a slot if one is given, and returns the lines that are printed. The status is 1 where the file is
-/// refused, and 0 where it is accepted.
+/// Explains a file, at a slot if one is given, and returns the lines that are printed. One of them says `refused` where the file is
+/// refused, and none where it is accepted.
 ///
 /// # Errors
 /// Where the slot is no number, the program is refused by the assembler, or memory runs out.
@@ -20,11 +20,25 @@ pub fn explained(alloc: Global, row: &Row<'_>) -> Result<String> {
     };
     let file = file_of(alloc, program)?;
     let mut out = Vec::new(alloc);
-    let status = explain_file(alloc, &file, slot, &mut out)?;
+    let found = explain_file(alloc, &file, slot, &mut out)?;
     let lines = joined(alloc, &String::from_utf8(out)?, " / ")?;
-    if status == u8::from(lines.contains("refused ")) {
+    let is_refused = found == Explained::Refused;
+    if is_refused == lines.contains("refused ") {
         Ok(lines)
     } else {
-        Ok(format!(in alloc; "status {status} / {lines}")?)
+        Ok(format!(in alloc; "{found:?} / {lines}")?)
+    }
+}
+
+/// Returns what a run of a program costs at most, as `explain` prints it.
+///
+/// # Errors
+/// Where the program is refused by the assembler or the loader, or memory runs out.
+pub fn cost(alloc: Global, row: &Row<'_>) -> Result<String> {
+    let file = file_of(alloc, row.given)?;
+    let mut out = Vec::new(alloc);
+    match explain_file(alloc, &file, None, &mut out)? {
+        Explained::Accepted(cost) => Ok(format!(in alloc; "{cost}")?),
+        Explained::Refused => bail!("the program is refused"),
     }
 }

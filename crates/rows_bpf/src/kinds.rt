@@ -23,10 +23,11 @@ pub enum Kind {
     Report,
     Order,
     Explain,
+    Cost,
 }
 
 /// The word of each kind.
-static WORDS: [(&str, Kind); 20] = [
+static WORDS: [(&str, Kind); 21] = [
     ("assemble", Kind::Assemble),
     ("reassemble", Kind::Reassemble),
     ("decode", Kind::Decode),
@@ -47,6 +48,7 @@ static WORDS: [(&str, Kind); 20] = [
     ("report", Kind::Report),
     ("order", Kind::Order),
     ("explain", Kind::Explain),
+    ("cost", Kind::Cost),
 ];
 
 impl Kind {

@@ -8,7 +8,7 @@ use Rattle.explaining.proofs.file.explain.Goals as goal
 use Rattle.explaining.proofs.file.explain.Goals.{in-Budget+in_ok-print_busiest, in_default}
 
 pub returns-clause-lines : goal.returns-clause-lines
-returns-clause-lines g c = λ _.
+returns-clause-lines g c =
     let shows : ShowsRefusal c.args.code.now c.in_ok-verdict.field-0.path.items c.in-Err.refusal =
     subst (λ (verdict : _). IfErr verdict (ShowsRefusal c.args.code.now c.in_ok-verdict.field-0.path.items)) c.in-Err.is c.in_ok-verdict.ensures.refused in
     let other : IsMemoryRefusal (Verify c.in-Err.refusal) → ⊥ = search rules in
