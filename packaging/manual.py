@@ -59,6 +59,8 @@ BEYOND = {
     "explain": Beyond("docs/REFUSALS.md", examples=(
         ("relayd explain client.bpf", "Prints the path to the instruction that is refused."),
         ("relayd explain --slot 3 client.bpf", "Prints what the verifier knew at slot 3."))),
+    "graph": Beyond("docs/C.md", examples=(
+        ("relayd graph client.bpf | dot -Tsvg >client.svg", "Draws the blocks of a program and its jumps, by Graphviz."),)),
     "trace": Beyond("docs/PROGRAMS.md", examples=(
         ("relayd trace client.bpf --data 01020304", "Runs a program over a datagram of four bytes."),)),
     "replay": Beyond("docs/EVENTS.md", examples=(

@@ -1,11 +1,14 @@
-"""Assembles and disassembles programs with the built relayd.
+"""Assembles, disassembles and draws programs with the built relayd.
 
 Each example's text has to give its bytes. Each program of the kernel's tests is disassembled, without slots
-and with them, and both texts have to give the same bytes. Wrong texts and files have to be refused as the cases say.
+and with them, and both texts have to give the same bytes. Wrong texts and files have to be refused as the cases say. Graphs are
+those that were worked by hand and, where Graphviz is installed, it reads each of them.
 """
 
 import json
 import pathlib
+import shutil
+import subprocess
 import sys
 import tempfile
 
@@ -27,6 +30,60 @@ KEPT = b"what was there"
 WIDE = bytes.fromhex("1801000001000000 0000000000000000 9500000000000000")
 WIDE_TEXT = "lddw r1, 1\nexit\n"
 WIDE_WITH_SLOTS = "lddw r1, 1 ; 0\nexit ; 2\n"
+
+# a text, the status of `graph`, the lines between the first two and the last one, and what is printed to standard error
+BEGINNING = "digraph program {\n  node [shape=box, fontname=monospace];\n"
+GRAPHS = [
+    # two branches
+    ("ldxdw r2, [r1+16]\nmov r0, 0\njgt r2, 1204, end\nmov r0, 1\nend:\nexit\n", 0, r"""
+  s0 [label="ldxdw r2, [r1+16] ; 0\lmov r0, 0 ; 1\ljgt r2, 1204, +1 ; 2\l"];
+  s3 [label="mov r0, 1 ; 3\l"];
+  s4 [label="exit ; 4\l"];
+  s0 -> s3 [label="not taken"];
+  s0 -> s4 [label=taken];
+  s3 -> s4;
+""", ""),
+    # a wide instruction, which is jumped over, and an instruction that no path leads to
+    ("mov r0, 0\nja end\nlddw r0, 7\nend:\nexit\n", 0, r"""
+  s0 [label="mov r0, 0 ; 0\lja +2 ; 1\l"];
+  s2 [label="lddw r0, 7 ; 2\l"];
+  s4 [label="exit ; 4\l"];
+  s0 -> s4;
+  s2 -> s4;
+""", ""),
+    # four bytes are read where they are proved, and one where none is: there the path goes by the taken branch
+    ("ldxdw r2, [r1+0]\nldxdw r3, [r1+8]\nmov r4, r2\nadd r4, 4\njgt r4, r3, end\n"
+     "ldxw r0, [r2+0]\nend:\nldxb r0, [r2+0]\nexit\n", 1, r"""
+  s0 [color=red, label="ldxdw r2, [r1+0] ; 0\lldxdw r3, [r1+8] ; 1\lmov r4, r2 ; 2\ladd r4, 4 ; 3\ljgt r4, r3, +1 ; 4\l"];
+  s5 [label="ldxw r0, [r2+0] ; 5\l"];
+  s6 [color=red, label="ldxb r0, [r2+0] ; 6\lexit ; 7\l"];
+  s0 -> s5 [label="not taken"];
+  s0 -> s6 [color=red, label=taken];
+  s5 -> s6;
+""", "refused V10 at 6\n"),
+    # the branch that isn't taken is refused, and goes on to a block that a jump leads to
+    ("mov r0, 0\nldxdw r2, [r1+16]\njgt r2, 9, other\nmov r0, r3\nother:\nexit\n", 1, r"""
+  s0 [color=red, label="mov r0, 0 ; 0\lldxdw r2, [r1+16] ; 1\ljgt r2, 9, +1 ; 2\l"];
+  s3 [color=red, label="mov r0, r3 ; 3\l"];
+  s4 [label="exit ; 4\l"];
+  s0 -> s3 [color=red, label="not taken"];
+  s0 -> s4 [label=taken];
+  s3 -> s4;
+""", "refused V5 at 3\n"),
+    # a jump back: no path leads to it
+    ("mov r0, 0\nadd r0, 1\njlt r0, 9, -2\nexit\n", 1, r"""
+  s0 [label="mov r0, 0 ; 0\l"];
+  s1 [color=red, label="add r0, 1 ; 1\ljlt r0, 9, -2 ; 2\l"];
+  s3 [label="exit ; 3\l"];
+  s0 -> s1;
+  s1 -> s3 [label="not taken"];
+  s1 -> s1 [label=taken];
+""", "refused V1 at 2\n"),
+    # a jump that leaves the program, which ends in no exit
+    ("mov r0, 0\nja +1\n", 1, r"""
+  s0 [color=red, label="mov r0, 0 ; 0\lja +1 ; 1\l"];
+""", "refused V2 at 1\n"),
+]
 
 
 def assembled(folder, text):
@@ -84,6 +141,27 @@ def failures_of_slots(folder):
             yield f"{' '.join(words)}: {got}"
 
 
+def failures_of_graphs(folder):
+    """Yields the graphs that are not the worked ones, or that Graphviz doesn't read where it is installed."""
+    file, cut, picture = folder / "program.bpf", folder / "cut.bpf", folder / "program.svg"
+    for text, status, lines, err in GRAPHS:
+        assembled(folder, text.encode())
+        wanted = f"{BEGINNING}{lines[1:]}}}\n"
+        got = run(["graph", file])
+        if got != (status, wanted, err):
+            yield f"the graph of {text!r}: {got}"
+        if shutil.which("dot"):
+            drawn = subprocess.run(["dot", "-Tsvg", "-o", picture], input=wanted, text=True, capture_output=True, check=False)
+            blocks = lines.count('\\l"];')
+            if drawn.stderr or picture.read_text(encoding="utf-8").count('class="node"') != blocks:
+                yield f"the picture of {text!r}: {drawn.stderr}"
+    # a file that encodes no program
+    cut.write_bytes(WIDE[:12])
+    got = run(["graph", cut])
+    if got != (1, "", "refused E2\n"):
+        yield f"the graph of 12 bytes: {got}"
+
+
 def failures_of_refusals(folder):
     """Yields the wrong texts that are not refused as they have to be, or that touch the output."""
     source, target = folder / "wrong.s", folder / "kept.bpf"
@@ -128,6 +206,7 @@ def main():
             *failures_of_examples(folder),
             *failures_of_round_trips(folder, listed),
             *failures_of_slots(folder),
+            *failures_of_graphs(folder),
             *failures_of_refusals(folder),
             *failures_of_files(folder),
         ]

@@ -160,6 +160,13 @@ const EXPLAIN: &[Argument] = &[
     },
 ];
 
+/// Those of `graph`.
+const GRAPH: &[Argument] = &[Argument {
+    name: "file",
+    takes: Takes::Word("FILE"),
+    help: "The program: its encoded instructions (RFC 9669), 1 to 4,096 slots of 8 bytes",
+}];
+
 /// Those of `trace`.
 const TRACE: &[Argument] = &[
     Argument {
@@ -302,7 +309,7 @@ const CHECK: &[Argument] = &[
 ];
 
 /// The subcommands.
-pub(crate) const SUBCOMMANDS: [SubcommandWords; 9] = [
+pub(crate) const SUBCOMMANDS: [SubcommandWords; 10] = [
     SubcommandWords {
         name: "assemble",
         about: "Assemble the text of a program, or print which line is wrong",
@@ -331,6 +338,12 @@ pub(crate) const SUBCOMMANDS: [SubcommandWords; 9] = [
         name: "explain",
         about: "Print what the verifier knows at each instruction, or the path to the one that it refuses, and why",
         arguments: EXPLAIN,
+        shared: NONE,
+    },
+    SubcommandWords {
+        name: "graph",
+        about: "Print the blocks of a program and its jumps in the language DOT, with the path to a refusal in red",
+        arguments: GRAPH,
         shared: NONE,
     },
     SubcommandWords {

@@ -110,6 +110,10 @@ pub enum Subcommand<'a> {
         file: &'a str,
         slot: Option<usize>,
     },
+    /// Draw the blocks of the program in a file and its jumps.
+    Graph {
+        file: &'a str,
+    },
     /// Run the program in a file over a datagram and print each step. `data` is the datagram in
     /// hexadecimal digits, and `None` stands for the empty one.
     Trace {

@@ -58,6 +58,12 @@ fn verify_of<'a>(matches: &'a ArgMatches<'_>) -> Option<Subcommand<'a>> {
     Some(Subcommand::Verify { file })
 }
 
+/// Returns the subcommand `graph` of its matches, or `None` where the file is missing.
+fn graph_of<'a>(matches: &'a ArgMatches<'_>) -> Option<Subcommand<'a>> {
+    let file = text(matches, "file")?;
+    Some(Subcommand::Graph { file })
+}
+
 /// Returns the subcommand `trace` of its matches, or `None` where the file is missing.
 fn trace_of<'a>(matches: &'a ArgMatches<'_>) -> Option<Subcommand<'a>> {
     let file = text(matches, "file")?;
@@ -218,6 +224,7 @@ fn named<'a>(
         "disassemble" => Ok(disassemble_of(matches)),
         "verify" => Ok(verify_of(matches)),
         "explain" => explain_of(matches),
+        "graph" => Ok(graph_of(matches)),
         "trace" => Ok(trace_of(matches)),
         "replay" => replay_of(matches),
         "serve" => serve_of(matches),

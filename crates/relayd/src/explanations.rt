@@ -1,8 +1,8 @@
-//! The command `explain`: prints what the verifier knew of a program.
+//! The commands `explain` and `graph`: print what the verifier knew of a program, and draw its blocks.
 
 use crate::options::{CommandError, unread};
 use crate::{REFUSED, note_object_file, read_whole};
-use explaining::{ExplainError, Explained, explain_file};
+use explaining::{ExplainError, Explained, explain_file, graph_file};
 use std::io::{self, BufWriter, Write};
 use std::rt::Files;
 
@@ -44,6 +44,30 @@ fn unexplained<'a>(error: ExplainError) -> CommandError<'a> {
     }
 }
 
+/// Draws the program in a file, prints the line of a refusal to `err`, and returns the exit status.
+fn print_graph<'a, R: Files + Input + Print + AllocGlobal, E: Write>(
+    rt: &R,
+    err: &mut E,
+    path: &'a str,
+) -> Result<u8, CommandError<'a>> {
+    let file = match read_whole(rt, path) {
+        Ok(file) => file,
+        Err(error) => return Err(unread(&error, path)),
+    };
+    let Ok(mut out) = BufWriter::new(rt.alloc(), io::writer(rt)) else {
+        return Err(CommandError::Memory);
+    };
+    match graph_file(rt.alloc(), &file, &mut out) {
+        Ok(None) => Ok(0),
+        Ok(Some(refusal)) => {
+            let _ = writeln!(err, "refused {refusal}");
+            note_object_file(err, &file);
+            Ok(REFUSED)
+        }
+        Err(error) => Err(unexplained(error)),
+    }
+}
+
 /// Prints the line of a fault to `err`, if a command has one, and returns the exit status.
 fn status_of<E: Write>(err: &mut E, ended: Result<u8, CommandError<'_>>) -> u8 {
     match ended {
@@ -63,5 +87,15 @@ pub(crate) fn explain<R: Files + Input + Print + AllocGlobal, E: Write>(
     slot: Option<usize>,
 ) -> u8 {
     let ended = print_explanation(rt, err, path, slot);
+    status_of(err, ended)
+}
+
+/// Draws the program in a file, prints the line of a fault to `err`, and returns the exit status.
+pub(crate) fn graph<R: Files + Input + Print + AllocGlobal, E: Write>(
+    rt: &R,
+    err: &mut E,
+    path: &str,
+) -> u8 {
+    let ended = print_graph(rt, err, path);
     status_of(err, ended)
 }

@@ -1,5 +1,5 @@
-//! The program: parses the command line, and reports on a program file, explains it, puts it in order, assembles a text, replays
-//! events, serves sockets or checks a server.
+//! The program: parses the command line, and reports on a program file, explains it, draws it, puts it in order, assembles a text,
+//! replays events, serves sockets or checks a server.
 #![tactic(auto)]
 
 mod check_command;
@@ -14,7 +14,7 @@ mod serve_command;
 mod starting;
 
 use crate::check_command::{check, end};
-use crate::explanations::explain;
+use crate::explanations::{explain, graph};
 use crate::options_file::further_words;
 use crate::replay_command::{ReplayOptions, replay};
 use crate::serve_command::serve;
@@ -214,6 +214,7 @@ fn run_subcommand<
     match subcommand {
         Subcommand::Verify { file } => verify_file(rt, err, file),
         Subcommand::Explain { file, slot } => explain(rt, err, file, slot),
+        Subcommand::Graph { file } => graph(rt, err, file),
         Subcommand::Trace { file, data } => report_file(rt, err, file, Ask::Trace { hex: data }),
         Subcommand::Disassemble { file, slots } => {
             report_file(rt, err, file, Ask::Disassemble { slots })
