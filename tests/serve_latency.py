@@ -6,7 +6,8 @@ A client sends data to a peer and the peer sends it back, again and again, first
 which one of the programs that are known to take longest takes the place of the client's program, until it is refused, loaded or
 given up. Round trips are those of the machine with all else that it does. With gcc the longest time of the processor between two
 receives of the server is printed as well: so long no datagram is looked at. A virtual machine that stops for a moment is part of
-that time, so the bound of it is far above what is expected, which is 5 milliseconds.
+that time, but it stops at other moments in each run, while what a program makes the server do is the same in each. So where it is
+above 5 milliseconds the run is repeated, and the least of some runs is what the program holds the server up for, at most.
 """
 
 import os
@@ -23,8 +24,8 @@ from worst_programs import known_programs, longest_programs
 TRIPS = 2_000
 # what the server prints where a verification has ended
 ENDED = ("refused V17", "loaded ", "it takes too long to verify")
-# the bound of the longest time of the processor between two receives, in seconds
-MOST = 0.1
+# the bound of the longest time of the processor between two receives, in seconds, and how many runs are made to be below it
+MOST, RUNS = 0.005, 8
 
 
 def endings(server):
@@ -47,10 +48,9 @@ def spread(taken, lost):
             f"{taken[-1] * 1e3:.1f} ms at most, {lost} of {len(taken) + lost:,} lost")
 
 
-def measured(folder, count, title, lines, environment):
-    """Prints how long round trips take without and with the verification of a program, and yields what is wrong."""
+def replaced(folder, slow, count, environment):
+    """Returns the round trips before the client's program is replaced by a slow one, and those until that one is verified."""
     path = shipped(folder, "client")
-    slow = assembled(folder, "slow", "\n".join(lines))
     with Server("--client", str(path), env=environment) as server, Client(server) as client, udp_socket() as peer:
         client.allocate()
         client.bind(address_of(peer))
@@ -59,19 +59,28 @@ def measured(folder, count, title, lines, environment):
         put(path, slow.read_bytes())
         taken, lost = trips(count, client, peer, relayed, lambda: endings(server) > 0)
         # a round trip that was under way when the program was loaded isn't answered
-        lost -= min(lost, server.printed().count("loaded "))
+        return before, (taken, lost - min(lost, server.printed().count("loaded ")))
+
+
+def measured(folder, count, title, lines, environment):
+    """Prints how long round trips take without and with the verification of a program, and yields what is wrong."""
+    slow = assembled(folder, "slow", "\n".join(lines))
+    held = []
+    while not held or min(held) > MOST and len(held) < RUNS:
+        before, (taken, lost) = replaced(folder, slow, count, environment)
         print(f"{title}: {spread(taken, lost)}; without: {spread(*before)}", flush=True)
         if lost:
             yield f"{title}: {lost} lost"
-        if "HELD" in environment:
-            held = int(pathlib.Path(environment["HELD"]).read_text(encoding="ascii")) / 1e9
-            print(f"    held up for {held * 1e3:.2f} ms of the processor at most", flush=True)
-            if held > MOST:
-                yield f"{title}: held up for {held * 1e3:.2f} ms"
+        if "HELD" not in environment:
+            return
+        held.append(int(pathlib.Path(environment["HELD"]).read_text(encoding="ascii")) / 1e9)
+        print(f"    held up for {held[-1] * 1e3:.2f} ms of the processor at most", flush=True)
+    if min(held) > MOST:
+        yield f"{title}: held up for {min(held) * 1e3:.2f} ms, the least of {len(held)} runs"
 
 
 def main():
-    """Prints two lines for each program, and the failures."""
+    """Prints two lines for each run of each program, and the failures."""
     build()
     count = int(sys.argv[1]) if len(sys.argv) > 1 else TRIPS
     failures = []
