@@ -57,7 +57,7 @@ RENEWALS = 20
 # how often lines of counters are printed
 PERIODS = [1, 5]
 # datagrams of clients that are discarded, each after one of another kind: ChannelData, messages, and others
-DISCARDED = [b"\x40", b"\x3f", b"", b"\x4f", b"\x00", b"\x50", b"\x47\0\0\0", b"", b"\x3f", b"\xff", b"\x40", b""]
+DISCARDED = [b"\x40", b"\x3f", b"", b"\x7f", b"\x00", b"\x80", b"\x47\0\0\0", b"", b"\x3f", b"\xff", b"\x40", b""]
 OF_EACH = (4, 3, 5)
 # the samples of these and of a peer without a permission: the shipped programs pass on what begins as a message does, and no more
 DISCARDED_SAMPLES = {

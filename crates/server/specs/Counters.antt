@@ -1,5 +1,5 @@
 -- Meaning. What is counted of datagrams that came, by their kinds (RFC 8656, section 12), and of what became of them.
-use Rattle.std.specs.Prelude.{◌≡◌, ◌≢◌, ℕ, ◌+◌, ◌<◌, ◌-◌, ◌^◌, min, nat_le, List, [], ◌∷◌, ◌++◌, length, map, if◌then◌else◌}
+use Rattle.std.specs.Prelude.{◌≡◌, ◌≢◌, ℕ, ◌+◌, ◌<◌, ◌-◌, ◌^◌, min, List, [], ◌∷◌, ◌++◌, length, map, if◌then◌else◌}
 use Rattle.std.specs.List.{sum_by}
 use Rattle.server.specs.declared.counters.TheConstants.{KINDS, REASONS}
 use Rattle.server.specs.declared.counters.Counter.{Counter}
@@ -14,13 +14,13 @@ use Rattle.server.specs.declared.link.Place.{Place}
 use Rattle.server.specs.declared.link.Place.TheVariants.{Client, Slot}
 use Rattle.control.specs.declared.response.Response.{Response}
 use Rattle.control.specs.declared.response.Response.TheVariants as response
+use Rattle.rules.specs.FastPart.{begins_as_stun, begins_as_channel_data}
 
 -- ---- kinds
 
--- by the first byte (RFC 8656, section 12)
+-- by the first two bits (RFC 8656, section 12), as the rules take it
 abbrev pub client_kind : List ℕ → Kind
-client_kind [] = Other
-client_kind (b ∷ rest) = if nat_le b 0x3f then Message else if nat_le b 0x4f then ChannelData else Other
+client_kind datagram = if begins_as_stun datagram then Message else if begins_as_channel_data datagram then ChannelData else Other
 
 abbrev pub datagram_kind : Place → List ℕ → Kind
 datagram_kind Client datagram = client_kind datagram

@@ -12,7 +12,7 @@ use rules::{Discard, Disposition};
 /// What a datagram that came is (RFC 8656, section 12).
 #[derive(Clone, Copy)]
 pub enum Kind {
-    /// A client's, with the first byte of a ChannelData message: 0x40 to 0x4f.
+    /// A client's, with the first byte of a ChannelData message: 0x40 to 0x7f.
     ChannelData,
     /// A client's, with the first byte of a STUN message: 0x00 to 0x3f.
     Message,
@@ -27,7 +27,7 @@ pub enum Kind {
 pub enum Outcome {
     /// This was done with it; what there was to send was sent.
     Done(Disposition),
-    /// What there was to send wasn't sent, since its peer is denied.
+    /// What there was to send wasn't sent, since its peer or its client is denied.
     Denied,
     /// What there was to send wasn't sent, since the send failed.
     SendFailed,
@@ -54,7 +54,7 @@ pub enum Counter {
     Refused,
     /// Datagrams of a kind that nothing was sent for, by the reason.
     Discarded(Kind, Discard),
-    /// Datagrams that weren't sent, since their peers are denied.
+    /// Datagrams that weren't sent, since their peers or their clients are denied.
     Denied,
     /// Sends that failed.
     SendFaults,
@@ -109,7 +109,7 @@ impl Kind {
         }
         match datagram.first() {
             Some(0x00..=0x3f) => Kind::Message,
-            Some(0x40..=0x4f) => Kind::ChannelData,
+            Some(0x40..=0x7f) => Kind::ChannelData,
             _ => Kind::Other,
         }
     }
