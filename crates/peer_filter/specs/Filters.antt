@@ -80,11 +80,12 @@ IsDecision rules peer None = EachCovering peer (λ _. ⊥) rules
 
 -- ---- filters
 
--- the rules for the addresses of each family, and the endpoints of the server
+-- the rules for the addresses of each family, the endpoints of the server, and the rules for the addresses of clients
 pub record Filter : Type 0 where
   pub ipv4 : List Rule
   pub ipv6 : List Rule
   pub endpoints : List ServerEndpoint
+  pub clients : List Rule
 
 -- whether a rule is for the addresses of a family
 abbrev pub is_for : Family → Rule → Bool
@@ -100,14 +101,18 @@ abbrev pub allows : Filter → Addr → Bool
 allows f peer = not (nat_eq (port_of peer) 0)
     && (not (list_any (is_at peer) f.endpoints) && is_allowed_by (deciding_rule (rules_for peer f) peer))
 
+-- nothing is sent to a client at an address that is denied to clients
+abbrev pub allows_client : Filter → Addr → Bool
+allows_client f client = is_allowed_by (deciding_rule f.clients client)
+
 -- the rules that hold without options
 abbrev pub default_rules : Loopback → List Rule
 default_rules loopback = ALWAYS_DENIED
     ++ (if loopback.ipv4 then [] else LOOPBACK_V4 ∷ []) ++ (if loopback.ipv6 then ALLOWED_LOOPBACK_V6 else LOOPBACK_V6) ∷ []
 
--- the filter of some rules: of each family those for its addresses, in their order
+-- the filter of some rules: of each family those for its addresses, in their order, and none for clients
 abbrev pub filter_of : List ServerEndpoint → List Rule → Filter
-filter_of endpoints rules = record { ipv4 = filter (is_for Ipv4) rules; ipv6 = filter (is_for Ipv6) rules; endpoints = endpoints }
+filter_of endpoints rules = record { ipv4 = filter (is_for Ipv4) rules; ipv6 = filter (is_for Ipv6) rules; endpoints = endpoints; clients = [] }
 
 -- the filter that is made, or the first limit that is passed
 abbrev pub IsMade : Loopback → List ServerEndpoint → List Rule → Result Filter FilterError → Type 0

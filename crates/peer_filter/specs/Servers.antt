@@ -1,12 +1,14 @@
 -- Meaning. The filter of a server, by where it listens and from where it relays.
-use Rattle.std.specs.Prelude.{◌≡◌, ◌↔◌, ◌⊎◌, IsTrue, List, [], ◌∷◌, ◌++◌, Option, Some, None, Result}
+use Rattle.std.specs.Prelude.{◌≡◌, ◌↔◌, ◌⊎◌, IsTrue, Bool, false, not, ◌&&◌, List, [], ◌∷◌, ◌++◌, filter, Option, Some, None, Result, Ok, Err}
 use Rattle.std.specs.Net.Addr.{ipv4_octets, ipv6_octets, IsUnspecifiedV4, IsUnspecifiedV6, IsLoopbackV4, IsLoopbackV6}
 use Rattle.std.specs.declared.net.ipv4_addr.Ipv4Addr.{Ipv4Addr}
 use Rattle.std.specs.declared.net.ipv6_addr.Ipv6Addr.{Ipv6Addr}
 use Rattle.std.specs.Option.{option_to_list}
 use Rattle.addresses.specs.declared.address.Addr.{Addr}
 use Rattle.addresses.specs.declared.address.Addr.TheVariants as addr
-use Rattle.peer_filter.specs.Filters.{Filter, IsMade}
+use Rattle.addresses.specs.declared.address.Family.TheVariants.{Ipv4}
+use Rattle.peer_filter.specs.Filters.{Filter, IsMade, default_rules, is_for}
+use Rattle.peer_filter.specs.Networks.{network_contains}
 use Rattle.peer_filter.specs.declared.filter.FilterError.{FilterError}
 use Rattle.peer_filter.specs.declared.rule.Loopback.{Loopback}
 use Rattle.peer_filter.specs.declared.rule.Rule.{Rule}
@@ -62,10 +64,29 @@ pub record AreOwn (server : ServerAddresses) (own : List ServerEndpoint) : Type 
   pub is_relayed6 : IsOutsideV6 server server.relayed6 relayed6
   pub own_is : own ≡ (((clients ++ option_to_list listen) ++ option_to_list relayed) ++ option_to_list listen6) ++ option_to_list relayed6
 
+-- whether a rule is for a network of IPv4 that a server doesn't listen in
+abbrev pub is_foreign : ServerAddresses → Rule → Bool
+is_foreign server rule = is_for Ipv4 rule && not (network_contains rule.network (addr.V4 (ipv4_octets server.listen) 0))
+
+-- the rules for clients: of those that hold without options, the ones for networks that the server isn't in; none where it listens
+-- at all addresses
+abbrev pub AreForClients : ServerAddresses → List Rule → Type 0
+AreForClients server rules = (IsUnspecifiedV4 server.listen × (rules ≡ []))
+    ⊎ (¬ (IsUnspecifiedV4 server.listen) × (rules ≡ filter (is_foreign server) (default_rules (record { ipv4 = false; ipv6 = false }))))
+
+-- the filter that is made, with rules for clients
+abbrev pub with_clients : List Rule → Result Filter FilterError → Result Filter FilterError
+with_clients rules (Ok f) = Ok (record f { clients = rules })
+with_clients rules (Err error) = Err error
+
 -- the filter that is made of these
 pub record IsFilterOf (server : ServerAddresses) (rules : List Rule) (result : Result Filter FilterError) : Type 0 where
   pub loopback : Loopback
   pub is_loopback : IsLoopbackOf server loopback
   pub own : List ServerEndpoint
   pub are_own : AreOwn server own
-  pub made : IsMade loopback own rules result
+  pub made : Result Filter FilterError
+  pub is_made : IsMade loopback own rules made
+  pub clients : List Rule
+  pub for_clients : AreForClients server clients
+  pub result_is : result ≡ with_clients clients made

@@ -23,7 +23,7 @@ pub const MAX_ENDPOINTS: usize = 8;
 const MAX_DEFAULTS: usize = 14;
 
 /// The most rules of a filter.
-const MAX_ALL_RULES: usize = MAX_DEFAULTS + MAX_RULES;
+pub(crate) const MAX_ALL_RULES: usize = MAX_DEFAULTS + MAX_RULES;
 
 /// Why a filter can't be made.
 #[derive(Clone, Copy, Debug, PartialEq, Eq, Error)]
@@ -43,6 +43,8 @@ pub struct PeerFilter {
     ipv4: ArrayVec<Rule, MAX_ALL_RULES>,
     ipv6: ArrayVec<Rule, MAX_ALL_RULES>,
     endpoints: ArrayVec<ServerEndpoint, MAX_ENDPOINTS>,
+    /// The rules for the addresses of clients.
+    pub(crate) clients: ArrayVec<Rule, MAX_ALL_RULES>,
 }
 
 impl Model for PeerFilter {
@@ -50,7 +52,7 @@ impl Model for PeerFilter {
 
     ghost Value = { Filter };
 
-    ghost view = { λ f. record { ipv4 = f.ipv4.items; ipv6 = f.ipv6.items; endpoints = f.endpoints.items } };
+    ghost view = { λ f. record { ipv4 = f.ipv4.items; ipv6 = f.ipv6.items; endpoints = f.endpoints.items; clients = f.clients.items } };
 }
 
 /// Returns the one of two rules with the longer prefix, the later one where they have as many bits.
@@ -108,7 +110,7 @@ fn is_own(endpoints: &[ServerEndpoint], peer: &Addr) -> bool
 }
 
 /// Returns the rules that hold without options.
-fn default_rules(loopback: Loopback) -> ArrayVec<Rule, MAX_ALL_RULES>
+pub(crate) fn default_rules(loopback: Loopback) -> ArrayVec<Rule, MAX_ALL_RULES>
     ensures rules { result.items ≡ default_rules loopback }
     ensures few { length result.items ≤ MAX_DEFAULTS }
 {
@@ -141,7 +143,7 @@ fn of_family(rules: &[Rule], family: Family) -> ArrayVec<Rule, MAX_ALL_RULES>
 
 impl PeerFilter {
     ghost use Rattle.std.specs.Prelude.{◌≡◌};
-    ghost use Rattle.peer_filter.specs.Filters.{allows, IsMade};
+    ghost use Rattle.peer_filter.specs.Filters.{allows, allows_client, IsMade};
 
     /// Makes a filter of the rules that hold without options, then `rules` in their order, and of the endpoints of the
     /// server.
@@ -168,7 +170,15 @@ impl PeerFilter {
             ipv4: of_family(&all, Family::Ipv4),
             ipv6: of_family(&all, Family::Ipv6),
             endpoints: own,
+            clients: ArrayVec::new(),
         })
+    }
+
+    /// Returns whether the server sends to a client: not to an address that the rules for clients deny.
+    pub fn allows_client(&self, client: &Addr) -> bool
+        ensures { result ≡ allows_client self.now client.now }
+    {
+        is_allowed(self.clients.as_slice(), client)
     }
 
     /// Returns whether the server sends to a peer: not to port 0, to an endpoint of its own, or to an address that is

@@ -1,15 +1,15 @@
 //! The filter of a server, by where it listens and from where it relays.
 
-ghost use Rattle.std.specs.Prelude.{◌≡◌, ◌≤◌, ◌<◌, ◌+◌, ◌++◌, ◌↔◌, IsTrue, length};
+ghost use Rattle.std.specs.Prelude.{◌≡◌, ◌≤◌, ◌<◌, ◌+◌, ◌++◌, ◌↔◌, IsTrue, filter, length};
 ghost use Rattle.std.specs.Net.Addr.{IsLoopbackV4};
 ghost use Rattle.std.specs.Option.{option_to_list};
-ghost use Rattle.peer_filter.specs.Servers.{clients_at, outside, IsClientPort, IsFilterOf, IsLoopbackAt6, IsOutsideV4, IsOutsideV6};
-ghost use Rattle.peer_filter.specs.declared.filter.TheConstants.{MAX_ENDPOINTS};
+ghost use Rattle.peer_filter.specs.Servers.{clients_at, is_foreign, outside, with_clients, AreForClients, IsClientPort, IsFilterOf, IsLoopbackAt6, IsOutsideV4, IsOutsideV6};
+ghost use Rattle.peer_filter.specs.declared.filter.TheConstants.{MAX_ALL_RULES, MAX_ENDPOINTS};
 
-use crate::filter::{FilterError, MAX_ENDPOINTS, PeerFilter};
+use crate::filter::{FilterError, MAX_ALL_RULES, MAX_ENDPOINTS, PeerFilter, default_rules};
 use crate::rule::{Loopback, Rule, ServerEndpoint};
 use arrayvec::ArrayVec;
-use attributes::Addr;
+use attributes::{Addr, Family};
 use std::net::{Ipv4Addr, Ipv6Addr};
 
 /// Endpoints of a server.
@@ -115,11 +115,61 @@ fn push_some(own: &mut Endpoints, endpoint: Option<ServerEndpoint>)
     }
 }
 
+/// Returns whether a rule is for a network of IPv4 that a server doesn't listen in.
+fn is_foreign(server: &ServerAddresses, rule: &Rule) -> bool
+    ensures { result ≡ is_foreign server.now rule.now }
+{
+    let ip = server.listen.octets();
+    rule.network.is_of_family(Family::Ipv4) && !rule.network.contains(&Addr::V4 { ip, port: 0 })
+}
+
+/// Returns those of some rules that are for networks of IPv4 which a server doesn't listen in.
+fn foreign_of(server: &ServerAddresses, rules: &[Rule]) -> ArrayVec<Rule, MAX_ALL_RULES>
+    requires { length rules.now ≤ MAX_ALL_RULES }
+    ensures { result.items ≡ filter (is_foreign server.now) rules.now }
+{
+    let mut foreign = ArrayVec::new();
+    for rule in rules {
+        if is_foreign(server, rule) {
+            foreign.push(*rule);
+        }
+    }
+    foreign
+}
+
+/// Returns the rules for clients: of those that hold without options, the ones for networks that the server isn't in; none where it
+/// listens at all addresses.
+fn rules_for_clients(server: &ServerAddresses) -> ArrayVec<Rule, MAX_ALL_RULES>
+    ensures { AreForClients server.now result.items }
+{
+    if server.listen.is_unspecified() {
+        return ArrayVec::new();
+    }
+    let all = default_rules(Loopback {
+        ipv4: false,
+        ipv6: false,
+    });
+    foreign_of(server, &all)
+}
+
+/// Gives the filter that is made its rules for clients.
+fn with_clients(
+    made: Result<PeerFilter, FilterError>,
+    clients: ArrayVec<Rule, MAX_ALL_RULES>,
+) -> Result<PeerFilter, FilterError>
+    ensures { result ≡ with_clients clients.items made }
+{
+    let mut filter = made?;
+    filter.clients = clients;
+    Ok(filter)
+}
+
 impl PeerFilter {
     /// Makes the filter of a server: nothing is sent to the clients' port of the address that it listens at and of the relayed
     /// one, or to that port of any address where it listens at all of them; nor to another port of an address of its own than
     /// those at which it relays, unless it is a loopback address; nor to loopback addresses of a family, unless it listens at one;
-    /// and else the rules decide.
+    /// and else the rules decide. Nothing is sent to clients at addresses that are denied without options, unless the server listens
+    /// in their network, or at all addresses.
     /// See docs/DECISIONS.md, "Peers that nothing is sent to".
     ///
     /// # Errors
@@ -132,6 +182,7 @@ impl PeerFilter {
         push_some(&mut own, outside_v4(server, server.relayed));
         push_some(&mut own, outside_v6(server, server.listen6));
         push_some(&mut own, outside_v6(server, server.relayed6));
-        PeerFilter::new(loopback_of(server), &own, rules)
+        let made = PeerFilter::new(loopback_of(server), &own, rules);
+        with_clients(made, rules_for_clients(server))
     }
 }

@@ -94,8 +94,8 @@ fn peer(alloc: Global, row: &Row<'_>) -> Result<String> {
     Ok(String::from_str(alloc, if allows { "allowed" } else { "denied" })?)
 }
 
-/// Returns whether the filter of a server without rules of its operator allows the peer of a row.
-fn server_peer(alloc: Global, row: &Row<'_>) -> Result<String> {
+/// Returns whether the filter of a server without rules of its operator allows the peer, or the client, of a row.
+fn of_server(alloc: Global, row: &Row<'_>) -> Result<String> {
     let listen = row.get("listen").context("no address")?;
     let server = ServerAddresses {
         listen: listen.parse()?,
@@ -106,7 +106,12 @@ fn server_peer(alloc: Global, row: &Row<'_>) -> Result<String> {
         relayed_ports: ports(row.get("ports").unwrap_or("49152-49407"))?,
     };
     let filter = PeerFilter::of_server(&server, &[])?;
-    let allows = filter.allows(&address(row.word(0)?)?);
+    let address = address(row.word(0)?)?;
+    let allows = if row.kind == "server-peer" {
+        filter.allows(&address)
+    } else {
+        filter.allows_client(&address)
+    };
     Ok(String::from_str(alloc, if allows { "allowed" } else { "denied" })?)
 }
 
@@ -138,7 +143,7 @@ pub fn answer(alloc: Global, row: &Row<'_>) -> Result<String> {
         "network" => network(alloc, &text(alloc, row.word(0)?)?),
         "error-text" => error_text(alloc, row.word(0)?),
         "peer" => peer(alloc, row),
-        "server-peer" => server_peer(alloc, row),
+        "server-peer" | "server-client" => of_server(alloc, row),
         "filter" => filter(alloc, row),
         kind => bail!("no row is called {kind}"),
     }

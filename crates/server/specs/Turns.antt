@@ -6,7 +6,7 @@ use Rattle.events.specs.Events.{Event, Datagram, Sending, ToPeer, ToClient}
 use Rattle.events.specs.declared.meta.Meta.{Meta}
 use Rattle.events.specs.declared.meta.Source.{Source}
 use Rattle.events.specs.declared.meta.Source.TheVariants as source
-use Rattle.peer_filter.specs.Filters.{Filter, allows}
+use Rattle.peer_filter.specs.Filters.{Filter, allows, allows_client}
 use Rattle.relay.specs.ByPrograms.{disposition_of_datagram}
 use Rattle.relay.specs.Harmless.{IsHarmless}
 use Rattle.relay.specs.Relays.{RelayContents, state_of}
@@ -75,17 +75,22 @@ abbrev pub may_reach : Option Filter → Addr → Bool
 may_reach None peer = true
 may_reach (Some filter) peer = allows filter peer
 
--- to clients always, and to the peers that may be reached
+-- each client without a filter
+abbrev pub may_answer : Option Filter → Addr → Bool
+may_answer None client = true
+may_answer (Some filter) client = allows_client filter client
+
+-- to the peers that may be reached, and to the clients that may be answered
 abbrev pub may_send : Option Filter → Sending → Bool
 may_send filter (ToPeer slot peer bytes) = may_reach filter peer
-may_send filter (ToClient client bytes) = true
+may_send filter (ToClient client bytes) = may_answer filter client
 
 -- what becomes of a datagram with which this was done, and whose answer was sent or wasn't
 abbrev pub outcome_of_send : Disposition → Result (Unit {0}) LinkFault → Outcome
 outcome_of_send done (Ok sent) = outcome.Done done
 outcome_of_send done (Err fault) = outcome.SendFailed
 
--- an answer is sent once, unless its peer may not be reached; without an answer nothing is sent
+-- an answer is sent once, unless its peer may not be reached, or its client not be answered; without an answer nothing is sent
 abbrev pub HasAnswered : Option Filter → Option Sending → Disposition → List Call → Outcome → Type 0
 HasAnswered filter None done sends became = (sends ≡ []) × (became ≡ outcome.Done done)
 HasAnswered filter (Some sending) done sends became =

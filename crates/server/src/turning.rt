@@ -4,7 +4,7 @@ ghost use Rattle.std.specs.Prelude.{◌≡◌, ◌≤◌, [], ◌∷◌, length,
 ghost use Rattle.events.specs.Actions.{sending_of};
 ghost use Rattle.server.specs.Calls.{Sent, HasReported};
 ghost use Rattle.server.specs.CounterValues.{counter_value};
-ghost use Rattle.server.specs.Turns.{IsReceived, source_at, may_reach, outcome_of_send, IsAnswered, IsTurn, HasCountedTurn};
+ghost use Rattle.server.specs.Turns.{IsReceived, source_at, may_answer, may_reach, outcome_of_send, IsAnswered, IsTurn, HasCountedTurn};
 ghost use Rattle.server.specs.declared.link.LinkFault.{LinkFault};
 
 use crate::counters::{Counters, Kind, Outcome};
@@ -102,6 +102,17 @@ fn may_reach(filter: &Option<PeerFilter>, peer: &Addr) -> bool
     }
 }
 
+/// Returns whether a server sends to a client: it does where it has no filter, or where the filter allows the client.
+#[inline(always)]
+fn may_answer(filter: &Option<PeerFilter>, client: &Addr) -> bool
+    ensures { result ≡ may_answer filter.now client.now }
+{
+    match filter {
+        Some(filter) => filter.allows_client(client),
+        None => true,
+    }
+}
+
 /// Sends a datagram from an endpoint, and returns what became of the one that came, with which this was done.
 #[inline(always)]
 fn send_from<L: Link>(
@@ -121,7 +132,8 @@ fn send_from<L: Link>(
     }
 }
 
-/// Sends an answer, if there is one and its peer isn't denied, and returns what became of the datagram that came.
+/// Sends an answer, if there is one and neither its peer nor its client is denied, and returns what became of the datagram that
+/// came.
 #[inline(always)]
 fn answer<L: Link>(
     link: &mut L,
@@ -140,13 +152,16 @@ fn answer<L: Link>(
             send_from(link, Place::Slot(slot), peer, bytes, done)
         }
         Action::ToClient { client, bytes } => {
+            if !may_answer(filter, &client) {
+                return Outcome::Denied;
+            }
             send_from(link, Place::Client, client, bytes, done)
         }
     }
 }
 
-/// Takes one turn at an endpoint: receives once, records what came, steps, and sends the answer once, if there is one and its
-/// peer isn't denied. Returns what became of the datagram that came; `None` is that none came.
+/// Takes one turn at an endpoint: receives once, records what came, steps, and sends the answer once, if there is one and neither
+/// its peer nor its client is denied. Returns what became of the datagram that came; `None` is that none came.
 ///
 /// # Errors
 /// Where the receive fails or counts more than 65,507 bytes; then the relay is as before, and nothing is recorded or sent.
@@ -174,7 +189,7 @@ pub(crate) fn take<L: Link, R: Recorder>(
 }
 
 /// Takes one turn at an endpoint, and counts it: receives once, records what came, steps, and sends the answer once, if there is
-/// one and its peer isn't denied. Returns what became of the datagram that came; `None` is that none came.
+/// one and neither its peer nor its client is denied. Returns what became of the datagram that came; `None` is that none came.
 /// See docs/DECISIONS.md, "One function serves a datagram".
 /// See docs/DECISIONS.md, "A turn is counted when it ends".
 ///

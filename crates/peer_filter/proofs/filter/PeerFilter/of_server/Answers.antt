@@ -19,5 +19,9 @@ returns c = record {
     is_relayed6 = c.outside_v6-2.ensures;
     own_is = search rules;
   };
-  made = c.new.ensures;
+  made = c.new-made.result;
+  is_made = c.new-made.ensures;
+  clients = c.rules_for_clients.result.items;
+  for_clients = c.rules_for_clients.ensures;
+  result_is = c.with_clients.ensures;
 }
