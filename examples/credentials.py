@@ -6,8 +6,8 @@ DAY = 86_400  # in seconds
 
 
 def read_secret(path):
-    """Returns the secret that a file has, without the end of its line."""
-    return pathlib.Path(path).read_bytes().rstrip(b"\n")
+    """Returns the secret that a file has on its first line, without the end of the line."""
+    return pathlib.Path(path).read_bytes().split(b"\n")[0].removesuffix(b"\r")
 
 
 def ice_servers(secret, url, *name, lifetime=DAY):

@@ -2,7 +2,7 @@
 # shellcheck shell=bash
 _relayd() {
   local word=${COMP_WORDS[COMP_CWORD]} before=${COMP_WORDS[COMP_CWORD-1]}
-  local commands="assemble order disassemble verify explain trace replay serve check help"
+  local commands="assemble order disassemble verify explain graph trace replay serve check help"
   # the options, those whose value is a file, those with another value, and whether the arguments are files
   local options="--help --version" files="" values="" arguments=""
   case ${COMP_WORDS[1]} in
@@ -27,25 +27,29 @@ _relayd() {
     values="--slot"
     arguments="files"
     ;;
+  graph)
+    options="--help"
+    arguments="files"
+    ;;
   trace)
     options="--data --help"
     values="--data"
     arguments="files"
     ;;
   replay)
-    options="--nonce --why --confine --realm --user --users --secret --slots --relay-ip --relay-ip6 --first-port --client \
-      --peer --same-as --help"
-    files="--users --secret --client --peer"
-    values="--nonce --realm --user --slots --relay-ip --relay-ip6 --first-port --same-as"
+    options="--nonce --why --confine --realm --user --users --secret --revoked --slots --user-slots --relay-ip --relay-ip6 \
+      --first-port --client --peer --same-as --help"
+    files="--users --secret --revoked --client --peer"
+    values="--nonce --realm --user --slots --user-slots --relay-ip --relay-ip6 --first-port --same-as"
     arguments="files"
     ;;
   serve)
     options="--port --options --listen --listen6 --buffer --reuse-port --deny --allow --relayed-ports --unconfined --rounds \
-      --nonce-lifetime --stats --metrics --record --record-limit --log --realm --user --users --secret --slots \
-      --relay-ip --relay-ip6 --first-port --client --peer --same-as --help"
-    files="--options --metrics --record --users --secret --client --peer"
+      --nonce-lifetime --stats --metrics --record --record-limit --log --realm --user --users --secret --revoked \
+      --slots --user-slots --relay-ip --relay-ip6 --first-port --client --peer --same-as --help"
+    files="--options --metrics --record --users --secret --revoked --client --peer"
     values="--port --listen --listen6 --buffer --deny --allow --relayed-ports --rounds --nonce-lifetime --stats \
-      --record-limit --realm --user --slots --relay-ip --relay-ip6 --first-port --same-as"
+      --record-limit --realm --user --slots --user-slots --relay-ip --relay-ip6 --first-port --same-as"
     ;;
   check)
     options="--user --help"

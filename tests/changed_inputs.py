@@ -24,7 +24,8 @@ ASSEMBLED = [(0, r"wrote \d+ bytes\n", ""), (1, "", r"refused L\d( at line \d+)?
 ANSWERS = r"((-|c [0-9.:]+ [0-9a-f]+|p \d+ [0-9.:]+ [0-9a-f]+)\n)*"
 REPLAYED = [(0, ANSWERS, ""), (1, ANSWERS, r"refused line \d+\n")]
 CONFIGURED = [(0, ANSWERS, ""), (1, "", r"refused users( at line \d+: [a-z0-9 ']+)?\n"), UNREAD]
-SHARED = [(0, ANSWERS, ""), (1, "", r"refused secret( at line 2)?\n"), UNREAD]
+SHARED = [(0, ANSWERS, ""), (1, "", r"refused secret( at line 3)?\n"), UNREAD]
+REVOKED = [(0, ANSWERS, ""), (1, "", r"refused revoked users at line \d+: [a-z0-9 ']+\n"), UNREAD]
 
 
 def processor_time():
@@ -56,7 +57,8 @@ def inputs(folder):
         ("text", text_of(["relay/refuse_network"]).encode(), ["assemble", "changed", "out"], ASSEMBLED),
         ("events", events.read_bytes(), ["replay", "--users", users, "changed"], REPLAYED),
         ("users", users.read_bytes(), ["replay", "--users", "changed", events], CONFIGURED),
-        ("secret", b"a secret of the test\n", ["replay", "--secret", "changed", events], SHARED),
+        ("secret", b"a secret of the test\nand the former one\n", ["replay", "--secret", "changed", events], SHARED),
+        ("revoked", b"# gone\nann\n\nben\n", ["replay", "--users", users, "--revoked", "changed", events], REVOKED),
     ]
 
 

@@ -1,7 +1,8 @@
 """Runs the built relayd's `serve` among users, files and neighbours that would harm others.
 
-Peers that nothing is sent to, a user who allocates through the server's own port, a standard error that nobody reads, files that
-are pipes, folders or too long, bursts, few file descriptors, and two processes that serve one port. All of it stays on loopback.
+Peers and clients that nothing is sent to, a user who allocates through the server's own port, a standard error that nobody reads,
+files that are pipes, folders or too long, bursts, few file descriptors, and two processes that serve one port. All of it stays on
+loopback; where the system lets a process have a network of its own, clients come from other addresses there.
 """
 
 import contextlib
@@ -16,7 +17,7 @@ import sys
 import tempfile
 import time
 
-from lib.program import PROGRAM, run_parts
+from lib.program import PASSED_OVER, PROGRAM, run_parts
 from lib.rules import ALLOCATE, BINDING, CHANNEL_BIND, CHANNEL_NUMBER, CREATE_PERMISSION, message
 from lib.server import (
     CHANNEL, LOOPBACK, UDP, USER, Client, Server, address_of, channel_data, code_of, comes, counters, fault_line,
@@ -38,7 +39,8 @@ NEVER = ["0.0.0.0", "0.1.2.3", "169.254.169.254", "224.0.0.1", "239.255.255.255"
 # `mov r0, 1` and `exit`: all is passed on to the rules
 PASS = bytes.fromhex("b700000001000000 9500000000000000")
 # the options of files that are read again, each with good bytes, how many it may have, and what is reported of one that isn't there
-ODD_FILES = [("client", PASS, 32_768, ""), ("peer", PASS, 32_768, ""), ("users", b"ann:a\n", 1 << 20, "not readable")]
+ODD_FILES = [("client", PASS, 32_768, ""), ("peer", PASS, 32_768, ""), ("users", b"ann:a\n", 1 << 20, "not readable"),
+             ("secret", b"a secret of 16 b\n", 1 << 20, "not readable"), ("revoked", b"eve\n", 1 << 20, "not readable")]
 # a burst, and the length of each of its datagrams: more than the system's usual buffers hold
 BURST, LENGTH = 400, 1_200
 # the sessions of two processes that serve one port, each with two channels
@@ -134,6 +136,35 @@ def loopback_behind_all_addresses():
             process.wait(5)
 
 
+def forged_clients():
+    """Yields what a server sends to clients at addresses that are denied, in a network of its own: nothing, unless it is in theirs."""
+    addresses = "ip link set lo up && ip address add 192.0.2.10/32 dev lo && ip address add 169.254.1.2/32 dev lo"
+    command = ["unshare", "--net", "sh", "-c", f'{addresses} && exec "$@"', "sh", sys.executable, __file__]
+    if subprocess.run([*command[:-2], "true"], stdout=subprocess.DEVNULL, stderr=subprocess.DEVNULL, check=False).returncode:
+        PASSED_OVER.append("forged clients: no network of its own")
+        return
+    for listen, answered in (("192.0.2.10", ["192.0.2.10"]), ("169.254.1.2", ["192.0.2.10", "169.254.1.2"]),
+                             ("0.0.0.0", ["192.0.2.10", "169.254.1.2", "127.0.0.1"])):
+        ran = subprocess.run([*command, listen], stdout=subprocess.PIPE, text=True, check=False)
+        yield from wanted(f"clients that a server at {listen} answers", ran.stdout.split(), answered)
+
+
+def answers_from(listen):
+    """Prints the addresses of clients that a server answers which listens at an address."""
+    command = [PROGRAM, "serve", *USER, "--listen", listen, "--relay-ip", "192.0.2.10", "--port", "3478"]
+    with subprocess.Popen(command, stdout=subprocess.PIPE, stderr=subprocess.DEVNULL, text=True) as process:
+        process.stdout.readline()
+        for address in ("192.0.2.10", "169.254.1.2", "127.0.0.1"):
+            with udp_socket(0, address) as client:
+                client.settimeout(0.5)
+                client.sendto(message(BINDING, bytes(12), []), ("192.0.2.10" if listen == "0.0.0.0" else listen, 3478))
+                with contextlib.suppress(TimeoutError):
+                    client.recv(100)
+                    print(address)
+        process.terminate()
+    return 0
+
+
 def loops():
     """Yields what an allocation through the server's own port does otherwise than fail: no slot reaches that port."""
     for slots in (2, 3):
@@ -203,8 +234,7 @@ def faults_in(server):
 
 
 def odd_files():
-    """Yields what a server does otherwise than report once, and go on, where the file of a program or of users becomes something
-    else."""
+    """Yields what a server does otherwise than report once, and go on, where a file that is read again becomes something else."""
     with tempfile.TemporaryDirectory() as name:
         for option, good, most, missing in ODD_FILES:
             path = pathlib.Path(name) / option
@@ -325,8 +355,10 @@ def shared_port():
 
 
 def main():
-    """Runs every part, and returns the exit status."""
-    parts = [denied_peers, never_sent, own_services, loopback_behind_all_addresses, loops, unread_errors, few_fault_lines, odd_files,
+    """Runs every part, or asks a server at an address, and returns the exit status."""
+    if len(sys.argv) > 1:
+        return answers_from(sys.argv[1])
+    parts = [denied_peers, never_sent, own_services, loopback_behind_all_addresses, forged_clients, loops, unread_errors, few_fault_lines, odd_files,
              bursts, few_descriptors, shared_port]
     return run_parts("hostile", parts)
 

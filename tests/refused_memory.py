@@ -35,11 +35,13 @@ EVER = 10**9
 PORT = free_ports(7, among=(10_000, 19_000))
 SERVER = ["--port", str(PORT), "--first-port", str(PORT + 1)]
 OTHER_SERVER = ["--port", str(PORT + 5), "--first-port", str(PORT + 6)]
-# where metrics are written, the file of a record, which is new in each run, and a secret
+# where metrics are written, the file of a record, which is new in each run, and files of secrets and of revoked users
 FOLDER = tempfile.TemporaryDirectory()
 RECORD = pathlib.Path(FOLDER.name) / "record"
 SECRET = pathlib.Path(FOLDER.name) / "secret"
-SECRET.write_text("a secret of the test\n")
+SECRET.write_text("a secret of the test\nand the former one\n")
+REVOKED = pathlib.Path(FOLDER.name) / "revoked"
+REVOKED.write_text("ann\nben\n")
 # command lines, each with its status where no allocation is refused
 CASES = [
     (["verify", FOURTH_BYTE], 0),
@@ -64,7 +66,7 @@ CASES = [
     (["disassemble", BRANCHES_TEXT], 1),
     (["replay", "--user", "u:p", "--users", USERS, "--client", FOURTH_BYTE, "--peer", HEADER, "/dev/null"], 0),
     (["replay", "--user", "u:p", "--nonce", "a b", "/dev/null"], 1),
-    (["replay", "--secret", str(SECRET), "/dev/null"], 0),
+    (["replay", "--secret", str(SECRET), "--revoked", str(REVOKED), "/dev/null"], 0),
     (["serve", *SERVER, "--user", "u:p", "--slots", "4", "--rounds", "1", "--stats", "1", "--metrics", f"{FOLDER.name}/metrics"], 0),
     (["serve", *OTHER_SERVER, "--user", "u:p", "--slots", "1", "--rounds", "1", "--record", str(RECORD), "--log"], 0),
     (["verify", "no such file"], 3),

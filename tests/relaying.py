@@ -43,9 +43,9 @@ IPV4_PROGRAMS = TOP / "tests" / "ipv4_programs"
 class Generator:
     """Events that are likely to meet each rule, made along a model's state."""
 
-    def __init__(self, seed, ip6=None, secret=None):
+    def __init__(self, seed, ip6=None, **options):
         self.random = random.Random(seed)
-        self.rules = Rules(USERS, slots=SLOTS, ip6=ip6, secret=secret)
+        self.rules = Rules(USERS, slots=SLOTS, ip6=ip6, **options)
         self.clients = CLIENTS if ip6 is None else [*CLIENTS * 4, CLIENT6]
         self.peers = PEERS if ip6 is None else PEERS + PEERS6
         self.families = [1, 1, 2] if ip6 is None else [1, 2, 2, 2, 3]

@@ -121,7 +121,11 @@ FAULTS = [
     ([*USER, "--users", "users", "events"], 1, "refused users at line 1: a name that an earlier user has\n"),
     (["--secret", "missing", *LONG_NONCE, "events"], 3, UNREAD),
     (["--users", "bad_users", "--secret", "missing", "events"], 1, "refused users at line 2: no colon\n"),
-    (["--secret", "two_lines", *LONG_NONCE, "events"], 1, "refused secret at line 2\n"),
+    (["--secret", "three_lines", *LONG_NONCE, "events"], 1, "refused secret at line 3\n"),
+    (["--secret", "short_former", "events"], 1, "refused secret\n"),
+    (["--secret", "three_lines", "--revoked", "missing", "events"], 1, "refused secret at line 3\n"),
+    (["--user", "u:p", "--revoked", "missing", "events"], 3, "cannot read missing\n"),
+    (["--user", "u:p", "--revoked", "bad_revoked", *LONG_NONCE, "events"], 1, "refused revoked users at line 2: a name with a colon\n"),
     (["--secret", "bytes", "events"], 3, "cannot read bytes\n"),
     (["--secret", "15_bytes", *SPACED_NONCE, "events"], 1, "refused nonce\n"),
     ([*USER, *TWICE, "--secret", "15_bytes", "events"], 1, "refused users\n"),
@@ -362,7 +366,9 @@ def write_files(folder):
         "allocate6": f"c 1000 {TX} 198.51.100.2:4000 {ALLOCATE6}\n",
         "unknown": f"c 1000 {TX} 198.51.100.2:4000 {UNKNOWN}\n",
         "bad_users": "u:p\nup\n",
-        "two_lines": "s" * 16 + "\n\n",
+        "three_lines": "s" * 16 + "\n" + "t" * 16 + "\n\n",
+        "short_former": "s" * 16 + "\n" + "t" * 15 + "\n",
+        "bad_revoked": "a\n1:b\n",
         **{f"{count}_bytes": "s" * count + "\n" for count in (15, 16, 128, 129)},
     }
     for name, text in texts.items():

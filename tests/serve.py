@@ -386,7 +386,7 @@ def session():
         for _ in range(2):
             client.send(message(SEND, random.randbytes(12), [*given, (DATA, b"no permission")]))
         for _ in range(3):
-            client.send(b"no message")
+            client.send(b"\xffno message")
         for _ in range(4):
             peer.sendto(b"no permission", ("127.0.0.1", server.first_port))
         last = counters(from_clients=18, from_peers=6, to_peers=2, to_clients=2, granted=5, challenged=2, unauthenticated=2,

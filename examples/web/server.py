@@ -29,7 +29,7 @@ class Handler(http.server.BaseHTTPRequestHandler):
         if self.path == "/":
             self.answer("text/html; charset=utf-8", (HERE / "index.html").read_bytes())
         elif self.path == "/ice-servers":
-            self.answer("application/json", json.dumps(ice_servers(self.server.secret, self.server.url)).encode())
+            self.answer("application/json", json.dumps(ice_servers(read_secret(self.server.secret), self.server.url)).encode())
         else:
             self.send_error(404)
 
@@ -49,7 +49,7 @@ def main():
         sys.exit("usage: server.py SECRET-FILE URL [PORT]")
     secret, url, port = [*sys.argv[1:], PORT][:3]
     server = http.server.ThreadingHTTPServer(("127.0.0.1", int(port)), Handler)
-    server.secret, server.url = read_secret(secret), url
+    server.secret, server.url = secret, url
     print(f"http://127.0.0.1:{server.server_port}/", flush=True)
     with contextlib.suppress(KeyboardInterrupt):
         server.serve_forever()

@@ -129,18 +129,26 @@ def read(data):
         return None
 
 
+def owner_of(m):
+    """The name of the user whose name a request gives: what follows its first colon, or all of it."""
+    name = m.first(USERNAME)
+    return name.partition(b":")[2] if b":" in name else name
+
+
 class Allocation:
-    def __init__(self, slot, client, user, transaction_id, family, lifetime, end):
-        self.slot, self.client, self.user, self.transaction_id, self.lifetime, self.end = slot, client, user, transaction_id, lifetime, end
-        self.family = family
+    def __init__(self, slot, client, user, owner, transaction_id, family, lifetime, end):
+        self.slot, self.client, self.user, self.owner, self.family = slot, client, user, owner, family
+        self.transaction_id, self.lifetime, self.end = transaction_id, lifetime, end
         self.permissions, self.channels = {}, {}
 
 
 class Rules:
     """The rules, over a state: allocations by slot, the greatest moment, and the nonce. `why` is why the last answer is so."""
 
-    def __init__(self, users, realm="relay", nonce="n1", slots=16, ip=bytes([127, 0, 0, 1]), ip6=None, first_port=49152, secret=None):
-        self.users, self.realm, self.nonce, self.secret = users, realm, nonce.encode(), secret
+    def __init__(self, users, realm="relay", nonce="n1", slots=16, ip=bytes([127, 0, 0, 1]), ip6=None, first_port=49152, secrets=(), revoked=(),
+                 user_slots=None):
+        self.users, self.realm, self.nonce, self.secrets = users, realm, nonce.encode(), secrets
+        self.revoked, self.user_slots = revoked, user_slots
         self.ips, self.first_port, self.now = {IPV4: ip, IPV6: ip6}, first_port, 0
         self.slots = [None] * slots
 
@@ -259,19 +267,27 @@ class Rules:
                 given += [(UNKNOWN_ATTRIBUTES, b"".join(struct.pack(">H", k) for k in m.unknown()))]
             return ("c", client, message(m.kind | 0x110, m.transaction_id, given, key))
 
-    def account(self, client, name):
-        """The user of a name, an index or the name itself, and the password; None where nobody has the name. A name that has expired
-        is refused for that."""
+    def account(self, client, name, secret):
+        """The user of a name under a secret, an index or both, and the password; a name that nobody has, or that has expired, is refused
+        for that."""
         for index, (user, password) in enumerate(self.users):
             if user.encode() == name:
                 return index, password.encode()
         said = re.fullmatch(rb"(0|[1-9][0-9]*)(:.*)?", name, re.DOTALL)
-        if self.secret is None or said is None or len(name) > 128 or int(said[1]) >= 2 ** 64:
-            return None
+        if secret is None or said is None or len(name) > 128 or int(said[1]) >= 2 ** 64:
+            raise Refused(401, "unknown user")
         held = self.of(client)
-        if int(said[1]) <= self.now and (held is None or held.user != name):
+        if int(said[1]) <= self.now and (held is None or held.user != (secret, name)):
             raise Refused(401, "expired")
-        return name, password_of(self.secret, name)
+        return (secret, name), password_of(secret, name)
+
+    def check_under(self, client, m, secret):
+        """The user of a request of a client under a secret, and the key."""
+        user, password = self.account(client, m.first(USERNAME), secret)
+        key = hashlib.md5(b":".join([m.first(USERNAME), self.realm.encode(), password])).digest()
+        if hmac.new(key, m.covered, hashlib.sha1).digest() != m.first(INTEGRITY):
+            raise Refused(401, "wrong password")
+        return user, key
 
     def check(self, client, m):
         """The user of a request of a client, and the key."""
@@ -282,14 +298,17 @@ class Rules:
             raise Refused(400, "incomplete credentials")
         if m.first(NONCE) != self.nonce:
             raise Refused(438, "stale nonce")
-        account = self.account(client, name)
-        if account is None:
-            raise Refused(401, "unknown user")
-        user, password = account
-        key = hashlib.md5(b":".join([name, self.realm.encode(), password])).digest()
-        if hmac.new(key, m.covered, hashlib.sha1).digest() != code:
-            raise Refused(401, "wrong password")
-        return user, key
+        refusals = []
+        for secret in self.secrets or [None]:
+            try:
+                found = self.check_under(client, m, secret)
+            except Refused as refused:
+                refusals.append(refused)
+                continue
+            if owner_of(m) in self.revoked:
+                raise Refused(401, "unknown user")
+            return found
+        raise refusals[0]
 
     @staticmethod
     def number(m, kind, size, must=False):
@@ -327,10 +346,13 @@ class Rules:
             if self.ips.get(family) is None:
                 raise Refused(440)
             lifetime = self.lifetime(self.number(m, LIFETIME, 4))
-            free = [s for s in range(len(self.slots)) if self.at(s) is None]
+            live = [self.at(s) for s in range(len(self.slots))]
+            if self.user_slots is not None and sum(a is not None and a.owner == owner_of(m) for a in live) >= self.user_slots:
+                raise Refused(508)
+            free = [s for s, a in enumerate(live) if a is None]
             if not free:
                 raise Refused(508)
-            a = Allocation(free[0], client, user, m.transaction_id, family, lifetime, self.now + lifetime)
+            a = Allocation(free[0], client, user, owner_of(m), m.transaction_id, family, lifetime, self.now + lifetime)
             self.slots[a.slot] = a
         self.why = f"allocated slot {a.slot} for {a.lifetime} seconds"
         relayed = self.ips[a.family], self.first_port + a.slot

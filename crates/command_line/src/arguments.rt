@@ -55,12 +55,22 @@ pub(crate) const RELAY: &[Argument] = &[
     Argument {
         name: "secret",
         takes: Takes::Value("FILE"),
-        help: "A file with the secret of time-limited credentials, a line of 16 to 128 bytes; none by default",
+        help: "A file with the secret of time-limited credentials, a line of 16 to 128 bytes; a former one may follow",
+    },
+    Argument {
+        name: "revoked",
+        takes: Takes::Value("FILE"),
+        help: "A file of users whose credentials aren't accepted, one a line; none by default",
     },
     Argument {
         name: "slots",
         takes: Takes::Value("N"),
         help: "How many allocations there may be at once; 16 by default",
+    },
+    Argument {
+        name: "user-slots",
+        takes: Takes::Value("N"),
+        help: "How many allocations a user may have at once; as many as there may be by default",
     },
     Argument {
         name: "relay-ip",

@@ -43,8 +43,12 @@ pub struct Options<'a> {
     pub users_file: Option<&'a str>,
     /// The file that has the secret of time-limited credentials.
     pub secret_file: Option<&'a str>,
+    /// The file of users that are revoked.
+    pub revoked_file: Option<&'a str>,
     /// The number of slots; 16 by default.
     pub slots: usize,
+    /// How many allocations a user may have at once; `None` is not to limit them.
+    pub user_slots: Option<usize>,
     /// The relayed IPv4 address.
     pub relay_ip: Option<Ipv4Addr>,
     /// The relayed IPv6 address.

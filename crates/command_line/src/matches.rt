@@ -89,7 +89,8 @@ fn explain_of<'a>(matches: &'a ArgMatches<'_>) -> Result<Option<Subcommand<'a>>,
 /// The first text that spells no value of its option.
 fn options_of<'a>(matches: &'a ArgMatches<'_>) -> Result<Options<'a>, ValueError<'a>> {
     let relay_ip6 = octets6("--relay-ip6 <HEX>", text(matches, "relay-ip6"))?;
-    let slots = slots("--slots <N>", text(matches, "slots"))?;
+    let count = slots("--slots <N>", text(matches, "slots"))?;
+    let user_slots = slots("--user-slots <N>", text(matches, "user-slots"))?;
     let relay_ip = ip("--relay-ip <A>", text(matches, "relay-ip"))?;
     let first_port = port("--first-port <P>", text(matches, "first-port"))?;
     Ok(Options {
@@ -97,7 +98,9 @@ fn options_of<'a>(matches: &'a ArgMatches<'_>) -> Result<Options<'a>, ValueError
         users: texts(matches, "user"),
         users_file: text(matches, "users"),
         secret_file: text(matches, "secret"),
-        slots: slots.unwrap_or(SLOTS),
+        revoked_file: text(matches, "revoked"),
+        slots: count.unwrap_or(SLOTS),
+        user_slots,
         relay_ip,
         relay_ip6,
         first_port: first_port.unwrap_or(FIRST_PORT),
@@ -238,7 +241,8 @@ fn named<'a>(
 ///
 /// # Errors
 /// The first text that spells no value of its option, in this order: those of `--port`, `--rounds`, `--listen`, `--listen6`,
-/// `--buffer`, `--nonce-lifetime`, `--stats` and `--record-limit`; then those of `--relay-ip6`, `--slots`, `--relay-ip` and `--first-port`.
+/// `--buffer`, `--nonce-lifetime`, `--stats` and `--record-limit`; then those of `--relay-ip6`, `--slots`,
+/// `--user-slots`, `--relay-ip` and `--first-port`.
 /// See docs/DECISIONS.md, "Numbers of options".
 pub fn subcommand_of<'a>(
     matches: &'a ArgMatches<'_>,

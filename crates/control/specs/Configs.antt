@@ -46,7 +46,7 @@ is_valid_field c Slots = is_between 1 256 c.slots && nat_le (c.first_port + c.sl
 is_valid_field c Realm = is_text 0x20 MAX_TEXT (string_bytes c.realm)
 is_valid_field c Nonce = is_nonce c.nonce.bytes
 is_valid_field c Users = are_users (is_some c.secret) c.users.items
-is_valid_field c Secret = is_secret c.secret
+is_valid_field c Secret = is_secret c.secret && is_secret c.former_secret
 
 -- the fields that have limits, in their order
 abbrev pub fields : List Field

@@ -1,12 +1,12 @@
 -- Meaning. How requests are answered: credentials, then attributes that are not understood, then the tests of the
 -- method in their order. The first that fails gives the error. Each test is one of RFC 8489, section 9.2.4, or RFC 8656,
 -- sections 7, 8, 10 and 12; their order is this relay's own.
-use Rattle.std.specs.Prelude.{ℕ, Bool, true, false, ◌&&◌, List, [], ◌∷◌, max, min, nat_eq, bytes_eq, Option, None, Some, option_and_then, is_some, Result, Ok, Err, ok_or, if◌then◌else◌}
+use Rattle.std.specs.Prelude.{ℕ, Bool, true, false, ◌&&◌, List, [], ◌∷◌, max, min, nat_eq, nat_lt, bytes_eq, Option, None, Some, option_and_then, is_some, unwrap_or, Result, Ok, Err, ok_or, if◌then◌else◌}
 use Rattle.basics.specs.Fallible.{◌>>=◌, check}
 use Rattle.stun.specs.Attributes.{values_of}
 use Rattle.stun.specs.Messages.{Parts, message_of}
 use Rattle.stun.specs.Ranges.{is_between}
-use Rattle.stun.specs.declared.registry.attribute.TheConstants.{CHANNEL_NUMBER, LIFETIME, XOR_PEER_ADDRESS, REQUESTED_ADDRESS_FAMILY, REQUESTED_TRANSPORT}
+use Rattle.stun.specs.declared.registry.attribute.TheConstants.{USERNAME, CHANNEL_NUMBER, LIFETIME, XOR_PEER_ADDRESS, REQUESTED_ADDRESS_FAMILY, REQUESTED_TRANSPORT}
 use Rattle.stun.specs.declared.registry.family.TheConstants.{IPV4, IPV6}
 use Rattle.stun.specs.declared.registry.ErrorCode.{ErrorCode}
 use Rattle.stun.specs.declared.registry.ErrorCode.TheVariants.{BadRequest, Unauthenticated, UnknownAttribute, AllocationMismatch, StaleNonce, AddressFamilyNotSupported, WrongCredentials, UnsupportedTransport, PeerAddressFamilyMismatch, InsufficientCapacity}
@@ -16,6 +16,7 @@ use Rattle.addresses.specs.declared.address.Family.{Family}
 use Rattle.addresses.specs.declared.address.Family.TheVariants.{Ipv4, Ipv6}
 use Rattle.attributes.specs.Values.{number_of_value}
 use Rattle.credentials.specs.Checks.{first_value}
+use Rattle.credentials.specs.TimeLimited.{owner_of}
 use Rattle.credentials.specs.declared.checking.AuthError.{AuthError}
 use Rattle.credentials.specs.declared.checking.AuthError.TheVariants.{Missing, Incomplete, UnknownUser, WrongIntegrity, Expired}
 use Rattle.credentials.specs.declared.checking.AuthError.TheVariants as auth
@@ -23,6 +24,7 @@ use Rattle.tables.specs.Rows.{Rows}
 use Rattle.tables.specs.Channels.{is_none_or}
 use Rattle.tables.specs.Changes.{Change}
 use Rattle.tables.specs.Changes as tables
+use Rattle.tables.specs.Counts.{allocations_of}
 use Rattle.tables.specs.LookUps.{allocation_of}
 use Rattle.tables.specs.declared.allocation.Allocation.{Allocation}
 use Rattle.tables.specs.declared.channels.TheConstants.{FIRST_CHANNEL, LAST_CHANNEL}
@@ -119,11 +121,26 @@ acceptable config p = do
   seconds ← requested_lifetime p
   Ok (family, lifetime_for seconds)
 
+-- whose allocations this one is counted with, by the name that the request gives
+abbrev pub owner_in : Parts → List ℕ
+owner_in p = owner_of (unwrap_or (first_value p USERNAME) [])
+
+-- whether who has so many allocations may have a further one: there is no quota, or it isn't used up
+abbrev pub has_quota : Option ℕ → ℕ → Bool
+has_quota None count = true
+has_quota (Some quota) count = nat_lt count quota
+
+-- with the family and the lifetime that are given
+abbrev pub allocate_given : Addr → ℕ → Parts → Family × ℕ → Rows → Decision
+allocate_given client user p given rows = do
+  made ← result_of_change (tables.allocation_change client user (owner_in p) p.tx given.0 given.1 rows)
+  Ok (Allocated given.0 made.0 given.1, made.1)
+
 abbrev pub allocate_anew : Config → Addr → ℕ → Parts → Rows → Decision
 allocate_anew config client user p rows = do
   given ← acceptable config p
-  made ← result_of_change (tables.allocation_change client user p.tx given.0 given.1 rows)
-  Ok (Allocated given.0 made.0 given.1, made.1)
+  _ ← check (has_quota config.user_slots (allocations_of (owner_in p) rows)) InsufficientCapacity
+  allocate_given client user p given rows
 
 -- where the client has no allocation, and where it has one, which a repeated request leaves as it is
 abbrev pub allocate_beside : Config → Option Allocation → Addr → ℕ → Parts → Rows → Decision

@@ -1,17 +1,21 @@
 -- Meaning. The whole answer to a message: the rows afterwards, the bytes of a reply, none where there is no reply, and what
 -- it says.
-use Rattle.std.specs.Prelude.{◌≡◌, ℕ, pos, ◌+ℤ◌, true, false, List, [], Option, None, Some, option_map, IsSomeAnd, Result, Ok, Err, string_bytes}
+use Rattle.std.specs.Prelude.{◌≡◌, ℕ, pos, ◌+ℤ◌, Bool, true, false, List, [], bytes_eq, Vec, Option, None, Some, option_map, IsSomeAnd, Result, Ok, Err, string_bytes}
+use Rattle.std.specs.declared.alloc.Global.{Global}
 use Rattle.std.specs.Int.{w64, saturate_unsigned}
+use Rattle.std.specs.List.{list_any}
 use Rattle.stun.specs.Messages.{Parts, parts_bytes}
 use Rattle.stun.specs.declared.registry.Class.TheVariants as class
 use Rattle.addresses.specs.declared.address.Addr.{Addr}
-use Rattle.credentials.specs.Checks.{Directory, IsChecked, users_of, user_in}
+use Rattle.credentials.specs.Checks.{Directory, users_of, user_in}
+use Rattle.credentials.specs.Results.{check_result}
 use Rattle.credentials.specs.TimeLimited.{Account}
 use Rattle.credentials.specs.declared.checking.AuthError.{AuthError}
+use Rattle.credentials.specs.declared.checking.AuthError.TheVariants.{UnknownUser}
 use Rattle.tables.specs.Addresses.{is_ipv4}
 use Rattle.tables.specs.LookUps.{allocation_of}
 use Rattle.tables.specs.Rows.{Rows, rows_at}
-use Rattle.control.specs.Control.{Decision, grant_of, rows_of, decision, binding}
+use Rattle.control.specs.Control.{Decision, grant_of, rows_of, decision, binding, owner_in}
 use Rattle.control.specs.Replies.{kind_of, reply_to}
 use Rattle.control.specs.declared.config.Config.{Config}
 use Rattle.control.specs.declared.request.Request.{Request}
@@ -31,12 +35,49 @@ user_held client rows = option_map (λ allocation. allocation.user) (allocation_
 abbrev pub time_at : Config → ℕ → ℕ
 time_at config now = saturate_unsigned w64 (pos now +ℤ config.clock_ahead)
 
--- whose credentials are accepted from a client at a moment, where these rows are live
-abbrev pub directory_for : Config → Addr → ℕ → Rows → Directory
-directory_for config client now rows = record {
+-- ---- credentials
+
+-- whose credentials are accepted at a moment, where this is the secret, if there is one, and the client has an allocation of a user
+abbrev pub directory_under : Config → Option (Vec ℕ Global) → ℕ → Option ℕ → Directory
+directory_under config secret now held = record {
   users = users_of config.users.items;
-  limits = option_map (λ secret. record { secret = secret.items; time = time_at config now; held = user_held client rows }) config.secret;
+  limits = option_map (λ secret. record { secret = secret.items; time = time_at config now; held = held }) secret;
 }
+
+abbrev pub check_under : Config → Option (Vec ℕ Global) → ℕ → Option ℕ → Parts → Result Account AuthError
+check_under config secret now held p =
+    check_result p (string_bytes config.realm) (directory_under config secret now held) config.nonce.bytes
+
+-- what is refused may be accepted otherwise, and else is refused for the first reason
+abbrev pub or_accepted : Result Account AuthError → Option (Result Account AuthError) → Result Account AuthError
+or_accepted (Ok account) other = Ok account
+or_accepted (Err error) None = Err error
+or_accepted (Err error) (Some (Ok account)) = Ok account
+or_accepted (Err error) (Some (Err other)) = Err error
+
+-- under the secret, and under the former one, if there is one
+abbrev pub check_under_each : Config → ℕ → Option ℕ → Parts → Result Account AuthError
+check_under_each config now held p =
+    or_accepted (check_under config config.secret now held p) (option_map (λ former. check_under config (Some former) now held p) config.former_secret)
+
+-- whether those of the user whose name a request gives are revoked
+abbrev pub is_revoked : Config → Parts → Bool
+is_revoked config p = list_any (λ owner. bytes_eq owner (owner_in p)) config.revoked.items
+
+-- what is revoked is nobody's
+abbrev pub unless_revoked : Bool → Result Account AuthError → Result Account AuthError
+unless_revoked false checked = checked
+unless_revoked true (Ok account) = Err UnknownUser
+unless_revoked true (Err error) = Err error
+
+abbrev pub check_by : Config → ℕ → Option ℕ → Parts → Result Account AuthError
+check_by config now held p = unless_revoked (is_revoked config p) (check_under_each config now held p)
+
+-- the account whose credentials a request of a client has, or the first test that fails
+abbrev pub check_of : Config → ℕ → Addr → Parts → Rows → Result Account AuthError
+check_of config now client p rows = check_by config now (user_held client (rows_at now rows)) p
+
+-- ---- responses
 
 -- the key that a reply is signed under: that of the account whose credentials were accepted
 abbrev pub key_for : Result Account AuthError → Option (List ℕ)
@@ -57,10 +98,8 @@ pub record IsAnswer (config : Config) (r : Request) (client : Addr) (p : Parts) 
   pub rows : new ≡ rows_of old result
   pub bytes : written ≡ parts_bytes (reply_to config r client p key (grant_of result))
 
--- the answer to a request whose credentials are checked
-pub record IsCheckedAnswer (config : Config) (now : ℕ) (turn : TurnRequest) (client : Addr) (p : Parts) (old new : Rows) (written : List ℕ) (says : Response) : Type 0 where
-  pub checked : Result Account AuthError
-  pub is_checked : IsChecked p (string_bytes config.realm) (directory_for config client now (rows_at now old)) config.nonce.bytes checked
+-- the answer to a request whose credentials are checked, with the result of the check
+pub record IsCheckedAnswer (config : Config) (now : ℕ) (turn : TurnRequest) (client : Addr) (p : Parts) (checked : Result Account AuthError) (old new : Rows) (written : List ℕ) (says : Response) : Type 0 where
   pub answer : IsAnswer config (request.Turn turn) client p (key_for checked) (decision turn (user_in checked) config client p (rows_at now old)) old new written
   pub response : says ≡ response_of (user_in checked) (decision turn (user_in checked) config client p (rows_at now old))
 
@@ -68,7 +107,8 @@ pub record IsCheckedAnswer (config : Config) (now : ℕ) (turn : TurnRequest) (c
 abbrev pub Answers : Config → ℕ → Request → Addr → Parts → Rows → Rows → List ℕ → Response → Type 0
 Answers config now request.Binding client p old new written says =
     IsAnswer config request.Binding client p None (binding p) old new written × (says ≡ response_of_result (grant_of (binding p)))
-Answers config now (request.Turn r) client p old new written says = IsCheckedAnswer config now r client p old new written says
+Answers config now (request.Turn r) client p old new written says =
+    IsCheckedAnswer config now r client p (check_of config now client p old) old new written says
 
 -- no reply, and no change
 pub record IsSilent (old new : Rows) (written : List ℕ) (says : Option Response) : Type 0 where

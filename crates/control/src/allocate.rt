@@ -2,10 +2,11 @@
 
 ghost use Rattle.std.specs.Prelude.{◌≡◌, ◌≤◌, IfOk, IsTrue, length};
 ghost use Rattle.tables.specs.Moments.{moment_of};
+ghost use Rattle.tables.specs.Counts.{allocations_of};
 ghost use Rattle.tables.specs.Rows.{rows_at};
 ghost use Rattle.tables.specs.Addresses.{is_ipv4};
 ghost use Rattle.control.specs.Serving.{Gives, HasSlotBelow};
-ghost use Rattle.control.specs.Control.{allocate_decision, allocate_anew, acceptable, family_for, family_numbered, offered, gives_family, is_repeated};
+ghost use Rattle.control.specs.Control.{allocate_decision, allocate_anew, allocate_given, acceptable, owner_in, has_quota, family_for, family_numbered, offered, gives_family, is_repeated};
 
 use crate::config::Config;
 use crate::lifetime::lifetime_for;
@@ -13,7 +14,9 @@ use crate::owning::error_of;
 use crate::reply::Grant;
 use crate::values::{family_of, lifetime_of, transport_of};
 use attributes::{Addr, Family};
+use credentials::owner_of;
 use stun::Message;
+use stun::registry::attribute::USERNAME;
 use stun::registry::{ErrorCode, family};
 use tables::{Allocation, Tables, Uncounted};
 
@@ -65,6 +68,13 @@ fn family_for(config: &Config, requested: Option<u8>) -> Option<Family>
     }
 }
 
+/// Returns the owner of what is allocated by a request, by its USERNAME.
+pub(crate) fn owner_in(message: &Message<'_>) -> [u8; 20]
+    ensures { result ≡ owner_in message.now }
+{
+    owner_of(message.value_of(USERNAME).unwrap_or_default())
+}
+
 /// Returns the family and the lifetime to give to an Allocate request of a client without an allocation.
 ///
 /// # Errors
@@ -79,6 +89,48 @@ fn acceptable(config: &Config, message: &Message<'_>) -> Result<(Family, u32), E
         return Err(ErrorCode::AddressFamilyNotSupported);
     };
     Ok((family, lifetime_for(lifetime_of(message)?)))
+}
+
+/// Returns whether the owner of what a request would allocate may have a further allocation.
+fn has_quota(tables: &Tables, config: &Config, message: &Message<'_>, now: u64) -> bool
+    ensures { result ≡ has_quota config.now.user_slots (allocations_of (owner_in message.now) (rows_at now tables.now)) }
+{
+    match config.user_slots {
+        Some(quota) => tables.allocations_of(&owner_in(message), now) < quota,
+        None => true,
+    }
+}
+
+/// Makes the allocation of a client that has none, with the family and the lifetime that are given.
+///
+/// # Errors
+/// The error of the change, where no slot is free.
+fn allocate_given(
+    tables: &mut Tables,
+    client: Addr,
+    user: usize,
+    message: &Message<'_>,
+    given: (Family, u32),
+    now: u64,
+) -> Result<Grant, ErrorCode>
+    requires ipv4 { IsTrue (is_ipv4 client) }
+    ensures gives { Gives (allocate_given client user message.now given (rows_at now tables.old))
+        tables.old result tables.new }
+    ensures inside { IfOk result (HasSlotBelow (length tables.old.slots)) }
+    ensures moment { (tables.old.moment ≤ tables.new.moment)
+        × (tables.new.moment ≤ moment_of tables.old.moment now) }
+    ensures slots { length tables.new.slots ≡ length tables.old.slots }
+{
+    let (family, lifetime) = given;
+    let owner = owner_in(message);
+    match tables.allocate(now, client, user, owner, message.tx(), family, lifetime) {
+        Ok(slot) => Ok(Grant::Allocated {
+            family,
+            slot,
+            lifetime,
+        }),
+        Err(refused) => Err(error_of(refused)),
+    }
 }
 
 /// Answers an Allocate request of a client without an allocation.
@@ -101,15 +153,11 @@ fn allocate_anew(
         × (tables.new.moment ≤ moment_of tables.old.moment now) }
     ensures slots { length tables.new.slots ≡ length tables.old.slots }
 {
-    let (family, lifetime) = acceptable(config, message)?;
-    match tables.allocate(now, client, user, message.tx(), family, lifetime) {
-        Ok(slot) => Ok(Grant::Allocated {
-            family,
-            slot,
-            lifetime,
-        }),
-        Err(refused) => Err(error_of(refused)),
+    let given = acceptable(config, message)?;
+    if !has_quota(tables, config, message, now) {
+        return Err(ErrorCode::InsufficientCapacity);
     }
+    allocate_given(tables, client, user, message, given, now)
 }
 
 /// Answers an Allocate request of a user. A client that has an allocation gets the first success again where the request

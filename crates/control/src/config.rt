@@ -25,6 +25,9 @@ pub struct Config {
     pub first_port: u16,
     /// The number of slots, 1 to 256; the last port is at most 65,535.
     pub slots: usize,
+    /// How many allocations a user may have at once, if that is limited. Names of time-limited credentials that differ in their
+    /// expiry alone are of one user ([`owner_of`](credentials::owner_of)).
+    pub user_slots: Option<usize>,
     /// The realm: 1 to 128 bytes of 0x20 to 0x7E.
     pub realm: String,
     /// The current nonce: 1 to 64 bytes of 0x21 to 0x7E.
@@ -34,6 +37,10 @@ pub struct Config {
     pub users: Vec<User>,
     /// The secret of time-limited credentials, 16 to 128 bytes, if such credentials are accepted.
     pub secret: Option<Vec<u8>>,
+    /// The secret that was the secret before, 16 to 128 bytes, if credentials under it are accepted as well.
+    pub former_secret: Option<Vec<u8>>,
+    /// The users whose credentials aren't accepted, each by the digest of its name ([`owner_of`](credentials::owner_of)).
+    pub revoked: Vec<[u8; 20]>,
     /// How many seconds the system's clock, since 1970, is ahead of the moments. Time-limited credentials expire by that clock,
     /// and nothing else is by it.
     pub clock_ahead: i64,
@@ -120,8 +127,11 @@ pub fn are_users(has_secret: bool, users: &[User]) -> bool
     (least..=MAX_USERS).contains(&users.len()) && are_within_limits(users) && are_distinct(users)
 }
 
+/// The greatest number of users that are revoked.
+pub const MAX_REVOKED: usize = 256;
+
 /// Returns whether the secret of time-limited credentials, if there is one, has 16 to 128 bytes.
-fn is_secret(secret: &Option<Vec<u8>>) -> bool
+pub fn is_secret(secret: &Option<Vec<u8>>) -> bool
     ensures { result ≡ is_secret secret.now }
 {
     match secret {
@@ -148,7 +158,7 @@ impl Config {
             Field::Realm => is_text(self.realm.as_bytes(), 0x20, MAX_TEXT),
             Field::Nonce => is_nonce(self.nonce.as_str()),
             Field::Users => are_users(self.secret.is_some(), &self.users),
-            Field::Secret => is_secret(&self.secret),
+            Field::Secret => is_secret(&self.secret) && is_secret(&self.former_secret),
         }
     }
 

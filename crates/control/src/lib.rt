@@ -18,7 +18,7 @@ mod unknown;
 mod users;
 mod values;
 
-pub use config::{Config, Field, MAX_TEXT, MAX_USERS, are_users};
+pub use config::{Config, Field, MAX_TEXT, MAX_USERS, are_users, is_secret};
 pub use credentials::is_nonce;
 pub use lifetime::{MAX_LIFETIME, MIN_LIFETIME};
 pub use numbers::law_all_numbers;

@@ -2,7 +2,7 @@
 
 ghost use Rattle.std.specs.Prelude.{◌≡◌, ◌≤◌, ◌<◌, ◌+◌, None, length, take, IfOk, IfSome, IsTrue, drop, option_map, string_bytes};
 ghost use Rattle.std.specs.Result.{result_map_both};
-ghost use Rattle.credentials.specs.Checks.{IsChecked, account_of};
+ghost use Rattle.credentials.specs.Checks.{account_of};
 ghost use Rattle.credentials.specs.TimeLimited.{limits_of};
 ghost use Rattle.tables.specs.Moments.{moment_of};
 ghost use Rattle.tables.specs.Rows.{rows_at};
@@ -10,11 +10,11 @@ ghost use Rattle.control.specs.Configs.{fault};
 ghost use Rattle.control.specs.Control.{decision_if_understood, refused_credentials};
 ghost use Rattle.control.specs.Serving.{Gives, HasSlotBelow};
 ghost use Rattle.tables.specs.Addresses.{is_ipv4};
-ghost use Rattle.control.specs.Responding.{user_held, time_at, directory_for, IsCheckedAnswer, Responds, count_of, response_in};
+ghost use Rattle.control.specs.Responding.{user_held, time_at, directory_under, check_under, check_under_each, is_revoked, check_of, IsCheckedAnswer, Responds, count_of, response_in};
 ghost use Rattle.control.specs.declared.config.TheConstants.{MAX_TEXT};
 ghost use Rattle.control.specs.declared.reply.TheConstants.{REPLY_BYTES};
 
-use crate::allocate::allocate;
+use crate::allocate::{allocate, owner_in};
 use crate::binding::binding;
 use crate::channel_bind::channel_bind;
 use crate::config::Config;
@@ -100,41 +100,42 @@ fn time_at(config: &Config, now: u64) -> u64
     now.saturating_add_signed(config.clock_ahead)
 }
 
-/// Returns what time-limited credentials of a client are checked with at a moment; `None` where there is no secret.
+/// Returns what time-limited credentials are checked with at a moment under a secret; `None` where there is none.
 fn time_limited<'a>(
-    config: &'a Config,
-    tables: &Tables,
-    client: Addr,
+    config: &Config,
+    secret: &'a Option<Vec<u8>>,
+    held: Option<usize>,
     now: u64,
 ) -> Option<TimeLimited<'a>>
-    ensures { option_map limits_of result ≡ (directory_for config.now client now (rows_at now tables.now)).limits }
+    ensures { option_map limits_of result ≡ (directory_under config.now secret.now now held).limits }
 {
-    match &config.secret {
+    match secret {
         Some(secret) => Some(TimeLimited {
             secret,
             time: time_at(config, now),
-            held: user_held(tables, client, now),
+            held,
         }),
         None => None,
     }
 }
 
-/// Checks the credentials of a request that a client sent, with the realm, the users, the secret and the nonce of a configuration.
+/// Checks the credentials of a request with the realm, the users and the nonce of a configuration, and with a secret, if there is one.
+/// `held` is the user of the client's allocation, if it has one.
 ///
 /// # Errors
 /// The first test that fails, in the order of [`AuthError`].
-fn check_credentials(
-    tables: &Tables,
+fn check_under(
     config: &Config,
+    secret: &Option<Vec<u8>>,
+    held: Option<usize>,
     arrival: &Arrival<'_>,
 ) -> Result<Authenticated, AuthError>
-    ensures { IsChecked arrival.now.message.now (string_bytes config.now.realm)
-        (directory_for config.now arrival.now.client arrival.now.moment (rows_at arrival.now.moment tables.now))
-        config.now.nonce.bytes (result_map_both account_of (λ e. e) result) }
+    ensures { result_map_both account_of (λ e. e) result
+        ≡ check_under config.now secret.now arrival.now.moment held arrival.now.message.now }
 {
     let directory = Directory {
         users: &config.users,
-        time_limited: time_limited(config, tables, arrival.client, arrival.moment),
+        time_limited: time_limited(config, secret, held, arrival.moment),
     };
     authenticate(
         arrival.message,
@@ -142,6 +143,57 @@ fn check_credentials(
         &directory,
         config.nonce.as_str(),
     )
+}
+
+/// Checks the credentials of a request under the secret of a configuration, and where they are refused under its former one, if it
+/// has one.
+///
+/// # Errors
+/// The first test that fails under the secret.
+fn check_under_each(
+    config: &Config,
+    held: Option<usize>,
+    arrival: &Arrival<'_>,
+) -> Result<Authenticated, AuthError>
+    ensures { result_map_both account_of (λ e. e) result
+        ≡ check_under_each config.now arrival.now.moment held arrival.now.message.now }
+{
+    let checked = check_under(config, &config.secret, held, arrival);
+    if checked.is_ok() || config.former_secret.is_none() {
+        return checked;
+    }
+    match check_under(config, &config.former_secret, held, arrival) {
+        Ok(authenticated) => Ok(authenticated),
+        Err(_) => checked,
+    }
+}
+
+/// Returns whether the credentials of the user whose name a request gives are revoked.
+fn is_revoked(config: &Config, message: &Message<'_>) -> bool
+    ensures { result ≡ is_revoked config.now message.now }
+{
+    let owner = owner_in(message);
+    config.revoked.iter().any(|revoked| *revoked == owner)
+}
+
+/// Checks the credentials of a request that a client sent, with the realm, the users, the secrets and the nonce of a configuration.
+///
+/// # Errors
+/// The first test that fails, in the order of [`AuthError`]; a user that is revoked is unknown.
+fn check_credentials(
+    tables: &Tables,
+    config: &Config,
+    arrival: &Arrival<'_>,
+) -> Result<Authenticated, AuthError>
+    ensures { result_map_both account_of (λ e. e) result ≡ check_of config.now arrival.now.moment arrival.now.client
+        arrival.now.message.now tables.now }
+{
+    let held = user_held(tables, arrival.client, arrival.moment);
+    let authenticated = check_under_each(config, held, arrival)?;
+    if is_revoked(config, arrival.message) {
+        return Err(AuthError::UnknownUser);
+    }
+    Ok(authenticated)
 }
 
 /// Answers a request of TURN, and returns what was written.
@@ -161,6 +213,7 @@ fn answer_user(
     ensures inside { result.count ≤ length out.new }
     ensures rest { drop result.count out.new ≡ drop result.count out.old }
     ensures answer { IsCheckedAnswer config.now arrival.now.moment request arrival.now.client arrival.now.message.now
+        (check_of config.now arrival.now.moment arrival.now.client arrival.now.message.now tables.old)
         tables.old tables.new (take result.count out.new) result.response }
     ensures moment { (tables.old.moment ≤ tables.new.moment)
         × (tables.new.moment ≤ moment_of tables.old.moment arrival.now.moment) }

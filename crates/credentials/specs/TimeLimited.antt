@@ -1,10 +1,11 @@
 -- Meaning. Time-limited credentials (draft-uberti-behave-turn-rest-00, section 2.2): a name says how long it is accepted, and
 -- a secret gives each name its password.
-use Rattle.std.specs.Prelude.{ℕ, ◌^◌, ◌∷◌, ◌==◌, ◌||◌, Bool, false, List, length, take, nat_le, nat_lt, Option, None, Some, if◌then◌else◌}
+use Rattle.std.specs.Prelude.{ℕ, ◌+◌, ◌^◌, ◌∷◌, ◌==◌, ◌||◌, Bool, false, List, length, take, drop, position, nat_le, nat_lt, Option, None, Some, if◌then◌else◌}
 use Rattle.std.specs.List.{before_first}
 use Rattle.std.specs.Int.{w64, from_be_bytes}
 use Rattle.base64.specs.Engines.{standard}
 use Rattle.base64.specs.GeneralPurpose.{encode_of}
+use Rattle.sha1.specs.Sha1.{sha1}
 use Rattle.basics.specs.Decimals.{decimal_in}
 use Rattle.basics.specs.Options.{◌>>=◌, guard}
 use Rattle.credentials.specs.Hmac.{hmac}
@@ -33,6 +34,18 @@ is_colon byte = byte == 0x3a
 -- the time at which a name of at most 128 bytes expires: what precedes its first colon, or all of it
 abbrev pub expiry_of : List ℕ → Option ℕ
 expiry_of name = if nat_le (length name) 128 then decimal_in (2 ^ 64) (before_first is_colon name) else None
+
+-- the name of its user: what follows its first colon, or all of it where it has none
+abbrev pub name_after : Option ℕ → List ℕ → List ℕ
+name_after None name = name
+name_after (Some colon) name = drop (colon + 1) name
+
+abbrev pub user_name : List ℕ → List ℕ
+user_name name = name_after (position is_colon name) name
+
+-- whose allocations are counted together: those of all names of one user, whatever time they say
+abbrev pub owner_of : List ℕ → List ℕ
+owner_of name = sha1 (user_name name)
 
 -- the password of a name
 abbrev pub password_of : List ℕ → List ℕ → List ℕ

@@ -20,4 +20,4 @@ pub use signing::{
     law_what_is_signed_is_accepted, law_what_is_signed_is_right, push_integrity, sign,
 };
 pub use text::{is_nonce, is_text};
-pub use time_limited::TimeLimited;
+pub use time_limited::{TimeLimited, owner_of};

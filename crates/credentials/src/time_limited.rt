@@ -6,7 +6,7 @@ ghost use Rattle.std.specs.List.{before_first};
 ghost use Rattle.std.specs.Int.{w64, from_be_bytes};
 ghost use Rattle.base64.specs.Engines.{standard};
 ghost use Rattle.base64.specs.GeneralPurpose.{encode_of};
-ghost use Rattle.credentials.specs.TimeLimited.{limits_of, is_colon, expiry_of, is_held_by, limited_account};
+ghost use Rattle.credentials.specs.TimeLimited.{limits_of, is_colon, user_name, owner_of, expiry_of, is_held_by, limited_account};
 ghost use Rattle.credentials.specs.Checks.{account_of};
 
 use crate::checking::Authenticated;
@@ -14,6 +14,7 @@ use crate::hmac::hmac_sha1;
 use crate::key::Key;
 use base64::engine::general_purpose::STANDARD;
 use basics::decimal::number;
+use sha1::Sha1;
 
 /// The greatest length of a name, in bytes.
 const MAX_NAME: usize = 128;
@@ -47,6 +48,25 @@ fn before_colon(name: &[u8]) -> &[u8]
         Some(index) => &name[..index],
         None => name,
     }
+}
+
+/// Returns the name of a name's user: what follows its first colon, all of it where it has none.
+fn user_name(name: &[u8]) -> &[u8]
+    ensures { result.now ≡ user_name name.now }
+{
+    match colon_in(name) {
+        Some(index) => &name[index + 1..],
+        None => name,
+    }
+}
+
+/// Returns the owner of what is allocated under a name: the digest of the name of its user, which is what follows the first colon of
+/// a name with an expiry, and all of a name without one.
+/// See docs/DECISIONS.md, "How many slots a user takes".
+pub fn owner_of(name: &[u8]) -> [u8; 20]
+    ensures { result ≡ owner_of name.now }
+{
+    Sha1::digest(user_name(name))
 }
 
 /// Returns the moment at which a name expires, in seconds since 1970; `None` where it names none.

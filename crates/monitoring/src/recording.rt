@@ -53,6 +53,10 @@ pub enum RecordEnd {
     Programs,
     #[error("the users are replaced")]
     Users,
+    #[error("the secret is replaced")]
+    Secrets,
+    #[error("users are revoked")]
+    Revoked,
     #[error("the clock was set")]
     Clock,
     /// It has as many whole lines as it may.

@@ -59,6 +59,9 @@ pub enum EndReason {
     /// No user that replaced the former ones has its name and password.
     #[error("its user was replaced")]
     Users,
+    /// Its user was revoked.
+    #[error("its user was revoked")]
+    Revoked,
 }
 
 /// Why the credentials of a request are refused. Displays as the reason.

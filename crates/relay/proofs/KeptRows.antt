@@ -28,7 +28,8 @@ use Rattle.attributes.specs.Values.{number_of_value}
 use Rattle.credentials.specs.Checks.{first_value, user_in}
 use Rattle.credentials.specs.declared.checking.AuthError.{AuthError}
 use Rattle.basics.specs.Fallible.{◌>>=◌, check}
-use Rattle.control.specs.Control.{Decision, rows_of, result_of_change, acceptable, allocate_beside, allocate_decision, own_allocation, refresh_decision, refresh_for, requested_family, requested_lifetime, create_permission, peers_in, channel_bind, is_repeated, user_or_error, attribute_test, decision_for_user, decision, binding}
+use Rattle.control.specs.Responding.{check_of}
+use Rattle.control.specs.Control.{Decision, rows_of, result_of_change, acceptable, allocate_beside, allocate_decision, own_allocation, refresh_decision, refresh_for, requested_family, requested_lifetime, create_permission, peers_in, channel_bind, is_repeated, owner_in, user_or_error, attribute_test, decision_for_user, decision, binding}
 use Rattle.control.specs.Values.{required_value}
 use Rattle.control.specs.declared.config.Config.{Config}
 use Rattle.control.specs.declared.reply.Grant.{Grant}
@@ -50,7 +51,7 @@ use Rattle.events.specs.declared.meta.Source.{Source}
 use Rattle.events.specs.declared.meta.Source.TheVariants.{Client, Peer}
 use Rattle.rules.specs.FastPart.{begins_as_stun}
 use Rattle.rules.specs.Rules.{send_indication, send_from, channel_data_from}
-use Rattle.rules.specs.ByRules.{by_rules, from_client, message, control, reply_to_request, check_of, request_of}
+use Rattle.rules.specs.ByRules.{by_rules, from_client, message, control, reply_to_request, request_of}
 use Rattle.rules.specs.Systems.{reply_of_relaying, address_of_source, is_served}
 
 -- ---- the bytes of values
@@ -160,7 +161,9 @@ module _ (client : Addr) (user : ℕ) (p : Parts) (rows : Rows) (are : AreWellFo
   keeps_allocate config ipv4 = beside (allocation_of client rows) where
     beside : (o : Option Allocation) → Keeps (allocate_beside config o client user p rows)
     beside None = after (acceptable config p) _ (λ given _.
-        change (tables.allocation_change client user p.tx given.0 given.1 rows) (λ slot. Allocated given.0 slot given.1) (allocate-well_formed client user p.tx given.0 given.1 rows are ipv4))
+        after (check _ _) _ (λ _ _.
+        change (tables.allocation_change client user (owner_in p) p.tx given.0 given.1 rows) (λ slot. Allocated given.0 slot given.1)
+        (allocate-well_formed client user (owner_in p) p.tx given.0 given.1 rows are ipv4)))
     beside (Some a) = after (check (is_repeated a user p) _) _ (λ _ _. tt)
 
   keeps_refresh : Keeps (refresh_decision client user p rows)

@@ -37,7 +37,7 @@ use Rattle.relay.specs.ByPrograms.{Programs, by_programs, by_run, let_through, o
 
 -- ---- a client's datagram
 
-module _ (client : Addr) (a b : Rows) (are_a : AreWellFormed a) (are_b : AreWellFormed b) (alike : LookAlike (Client client) a b) where
+module _ {quota : Option ℕ} (client : Addr) (a b : Rows) (are_a : AreWellFormed a) (are_b : AreWellFormed b) (alike : LookAlike quota (Client client) a b) where
   own_allocation : allocation_of client a ≡ allocation_of client b
   own_allocation = allocation_of-alike client a b alike
 
@@ -93,7 +93,7 @@ module _ (client : Addr) (a b : Rows) (are_a : AreWellFormed a) (are_b : AreWell
     of false = passes_nothing confinement
 
 module _ (confinement : Option Confinement) (config : Config) (now : ℕ) (client : Addr) (a b : Rows) (are_a : AreWellFormed a) (are_b : AreWellFormed b)
-    (alike : LookAlike (Client client) (rows_at now a) (rows_at now b)) where
+    (alike : LookAlike config.user_slots (Client client) (rows_at now a) (rows_at now b)) where
   abbrev Alike : SystemReply → SystemReply → Type 0
   Alike x y = RepliesAlike client now a x y
 
@@ -156,7 +156,7 @@ module _ (slot : ℕ) (peer : Addr) (a b : Rows) (same : held_in a slot ≡ held
       ∙ ap (λ (o : Option Held). y >>= λ sending. guard (holds_as confinement.aliases.items (λ name. is_some (option_and_then (permission_of name) o)) peer) >>= λ _. Some sending) same
 
 module _ (confinement : Option Confinement) (config : Config) (now : ℕ) (slot : ℕ) (peer : Addr) (a b : Rows)
-    (alike : LookAlike (Peer slot peer) (rows_at now a) (rows_at now b)) where
+    (alike : LookAlike config.user_slots (Peer slot peer) (rows_at now a) (rows_at now b)) where
   at_slot : held_in (rows_at now a) slot ≡ held_in (rows_at now b) slot
   at_slot = peer_slot-alike slot peer (rows_at now a) (rows_at now b) alike
 

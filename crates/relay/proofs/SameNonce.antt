@@ -10,7 +10,7 @@ use Rattle.credentials.specs.Checks.{user_in}
 use Rattle.credentials.specs.declared.checking.AuthError.{AuthError}
 use Rattle.control.specs.Control.{Decision, grant_of, rows_of, decision, binding}
 use Rattle.control.specs.Replies.{reply_to}
-use Rattle.control.specs.Responding.{key_for, response_of}
+use Rattle.control.specs.Responding.{check_of, key_for, response_of}
 use Rattle.control.specs.declared.config.Config.{Config}
 use Rattle.control.specs.declared.reply.Grant.{Grant}
 use Rattle.control.specs.declared.reply.Grant.TheVariants as grant
@@ -27,7 +27,7 @@ use Rattle.relay.specs.ByPrograms.{Programs, program_for, of_run, is_there, disp
 use Rattle.rules.specs.declared.confinement.Confinement.{Confinement}
 use Rattle.rules.specs.FastPart.{begins_as_stun}
 use Rattle.rules.specs.Rules.{send_indication, send_from, channel_data_from}
-use Rattle.rules.specs.ByRules.{check_of, reply_with, reply_to_request, message, from_client, request_of}
+use Rattle.rules.specs.ByRules.{reply_with, reply_to_request, message, from_client, request_of}
 use Rattle.rules.specs.Dispositions.{channel_data_test, client_disposition, disposition_of_message, disposition_of_request, relayed_if, send_test}
 use Rattle.rules.specs.Systems.{SystemReply, is_served, reply_of_relaying, with_nonce}
 use Rattle.rules.specs.declared.disposition.Discard.TheVariants.{NotServed}

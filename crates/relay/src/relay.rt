@@ -13,7 +13,7 @@ use crate::shipped::are_shipped;
 use crate::step::{Step, discarded, relayed, stopped};
 use arrayvec::ArrayString;
 use attributes::Addr;
-use control::{Config, Field, REPLY_BYTES, are_users, is_nonce, new_indices};
+use control::{Config, Field, REPLY_BYTES, are_users, is_nonce, is_secret, new_indices};
 use credentials::User;
 use events::{Meta, Source};
 use helpers::Lookup;
@@ -77,12 +77,12 @@ fn is_served(from: &Source, tables: &Tables) -> bool
 }
 
 impl Relay {
-    ghost use Rattle.std.specs.Prelude.{◌≡◌, ◌≤◌, ◌↔◌, IsOk, IsTrue, is_some, IfOk, IfErr, OnOk, OnErr, length, true, None, unwrap_or, ◌+◌};
+    ghost use Rattle.std.specs.Prelude.{◌≡◌, ◌≤◌, ◌↔◌, IsOk, IsTrue, is_some, IfOk, IfErr, OnOk, OnErr, length, true, Some, None, unwrap_or, ◌+◌};
     ghost use Rattle.std.specs.Borrow.{sem};
-    ghost use Rattle.control.specs.Configs.{fault, are_users};
+    ghost use Rattle.control.specs.Configs.{fault, are_users, is_secret};
     ghost use Rattle.credentials.specs.Texts.{is_nonce};
     ghost use Rattle.control.specs.declared.config.Config.{Config};
-    ghost use Rattle.control.specs.declared.config.Field.TheVariants.{Nonce, Users};
+    ghost use Rattle.control.specs.declared.config.Field.TheVariants.{Nonce, Users, Secret};
     ghost use Rattle.machine.specs.Contents.{room_of};
     ghost use Rattle.tables.specs.Addresses.{is_ipv4};
     ghost use Rattle.semantics.specs.declared.limits.TheConstants.{MAX_DATAGRAM};
@@ -96,7 +96,7 @@ impl Relay {
     ghost use Rattle.relay.specs.Shipped.{AreShipped};
     ghost use Rattle.rules.specs.Dispositions.{disposition_of};
     ghost use Rattle.relay.specs.Unconfined.{asking};
-    ghost use Rattle.relay.specs.Users.{after_users};
+    ghost use Rattle.relay.specs.Users.{after_users, after_secrets, after_revoked};
     ghost use Rattle.relay.specs.Harmless.{IsHarmless};
     ghost use Rattle.relay.specs.KeysCompared.{keys_of_step};
     ghost use Rattle.relay.specs.Steps.{disposition_of_step, outcome_of, ruled_outcome_of, after_step, lends_relay_room, HasStepped};
@@ -260,6 +260,42 @@ impl Relay {
         self.tables.replace_users(&indices);
         self.config.users = users;
         Ok(())
+    }
+
+    /// Replaces the secret of time-limited credentials, and the former one under which they are accepted as well, if there is one.
+    /// Nothing else changes: the allocations that were made under another secret continue.
+    /// See docs/DECISIONS.md, "Secrets that are replaced".
+    ///
+    /// # Errors
+    /// Where one of them hasn't 16 to 128 bytes. Then nothing is changed.
+    pub fn set_secrets(
+        &mut self,
+        secret: Vec<u8>,
+        former: Option<Vec<u8>>,
+    ) -> Result<(), RelayError>
+        ensures ok { OnOk result (self.new ≡ after_secrets self.old secret former) }
+        ensures valid { IsOk result ↔ IsTrue (is_secret (Some secret) && is_secret former) }
+        ensures refused { IfErr result (λ e. e ≡ BadConfig Secret) }
+        ensures unchanged { OnErr result (self.new ≡ self.old) }
+    {
+        let secret = Some(secret);
+        if !is_secret(&secret) || !is_secret(&former) {
+            return Err(RelayError::BadConfig(Field::Secret));
+        }
+        self.config.secret = secret;
+        self.config.former_secret = former;
+        Ok(())
+    }
+
+    /// Replaces the users that are revoked, each by the digest of its name ([`owner_of`](credentials::owner_of)). Nobody has their
+    /// names from now on, in the list or before a secret, and what was allocated under them ends, with its permissions and channels.
+    /// Nothing else changes.
+    /// See docs/DECISIONS.md, "Users that are revoked".
+    pub fn set_revoked(&mut self, revoked: Vec<[u8; 20]>)
+        ensures { self.new ≡ after_revoked self.old revoked }
+    {
+        self.tables.end_owned(&revoked);
+        self.config.revoked = revoked;
     }
 
     /// Decides a datagram, the first `n` bytes of [`area`](Relay::area), and returns what is to be sent and what was done with

@@ -8,8 +8,8 @@ use peer_filter::{FilterError, NetworkError};
 use programs::{CLIENT, PEER};
 use relay::Relay;
 use setup::{
-    LineFault, ProgramError, RefusedProgram, Setup, SetupError, UsersError, add_users,
-    add_users_of_lines, relay_of, secret,
+    LineFault, ProgramError, RefusedProgram, RevokedError, Secrets, SecretsError, Setup,
+    SetupError, UsersError, add_users, add_users_of_lines, relay_of, revoked_in, secrets_in,
 };
 use sockets::BindErrorKind;
 use std::net::SocketAddr;
@@ -54,9 +54,12 @@ pub(crate) enum CommandError<'a> {
     /// The line of this number in the file of users, from 1 on, is no user's.
     #[error("refused users at line {0}: {1}")]
     Users(u64, LineFault),
-    /// The file of the secret has a second line.
-    #[error("refused secret at line 2")]
+    /// The file of the secret has a third line.
+    #[error("refused secret at line 3")]
     Secret,
+    /// The file of revoked users has a line that names none.
+    #[error("refused revoked users at {0}")]
+    Revoked(RevokedError),
     /// The line of this number in the file of options, from 1 on, is no option's.
     #[error("refused options at line {0}: {1}")]
     OptionLine(u64, OptionFault),
@@ -105,6 +108,7 @@ impl CommandError<'_> {
             CommandError::Users(..)
             | CommandError::OptionLine(..)
             | CommandError::Secret
+            | CommandError::Revoked(_)
             | CommandError::Program(_)
             | CommandError::Setup(_)
             | CommandError::Line(_) => 1,
@@ -156,10 +160,7 @@ fn users_of<'a, R: Files + AllocGlobal>(
     let Some(path) = options.users_file else {
         return Ok((users, None));
     };
-    let text = match fs::read_to_string(rt, path) {
-        Ok(text) => text,
-        Err(error) => return Err(unread(&error, path)),
-    };
+    let text = read_text(rt, path)?;
     match add_users_of_lines(rt.alloc(), &mut users, &text) {
         Ok(()) => Ok((users, Some(text))),
         Err(UsersError::Line(number, fault)) => Err(CommandError::Users(number, fault)),
@@ -167,25 +168,43 @@ fn users_of<'a, R: Files + AllocGlobal>(
     }
 }
 
-/// Returns the secret of the file that the options name, if they name one.
-fn secret_of<'a, R: Files + AllocGlobal>(
+/// Reads the file of an option as a text.
+fn read_text<'a, R: Files + AllocGlobal>(
+    rt: &R,
+    path: &'a str,
+) -> Result<String, CommandError<'a>> {
+    fs::read_to_string(rt, path).map_err(|error| unread(&error, path))
+}
+
+/// Returns the secrets of the file that the options name, if they name one, and its text.
+fn secrets_of<'a, R: Files + AllocGlobal>(
     rt: &R,
     options: &Options<'a>,
-) -> Result<Option<Vec<u8>>, CommandError<'a>> {
+) -> Result<Option<(Secrets, String)>, CommandError<'a>> {
     let Some(path) = options.secret_file else {
         return Ok(None);
     };
-    let text = match fs::read_to_string(rt, path) {
-        Ok(text) => text,
-        Err(error) => return Err(unread(&error, path)),
+    let text = read_text(rt, path)?;
+    match secrets_in(rt.alloc(), &text) {
+        Ok(secrets) => Ok(Some((secrets, text))),
+        Err(SecretsError::Lines) => Err(CommandError::Secret),
+        Err(SecretsError::Memory) => Err(CommandError::Memory),
+    }
+}
+
+/// Returns the users that are revoked, of the file that the options name, if they name one, and its text.
+fn revoked_of<'a, R: Files + AllocGlobal>(
+    rt: &R,
+    options: &Options<'a>,
+) -> Result<(Vec<[u8; 20]>, Option<String>), CommandError<'a>> {
+    let Some(path) = options.revoked_file else {
+        return Ok((Vec::new(rt.alloc()), None));
     };
-    let Some(line) = secret(&text) else {
-        return Err(CommandError::Secret);
-    };
-    let mut bytes = Vec::new(rt.alloc());
-    match bytes.extend_from_slice(line.as_bytes()) {
-        Ok(()) => Ok(Some(bytes)),
-        Err(_) => Err(CommandError::Memory),
+    let text = read_text(rt, path)?;
+    match revoked_in(rt.alloc(), &text) {
+        Ok(owners) => Ok((owners, Some(text))),
+        Err(RevokedError::Memory) => Err(CommandError::Memory),
+        Err(error) => Err(CommandError::Revoked(error)),
     }
 }
 
@@ -205,13 +224,54 @@ pub(crate) struct Relayed {
     pub(crate) ip6: Option<[u8; 16]>,
 }
 
-/// A relay that can begin, and what its programs' files and its file of users had.
+/// The texts of files that are read again; `None` where no file is given.
+#[derive(Drop)]
+pub(crate) struct Texts {
+    pub(crate) users: Option<String>,
+    pub(crate) secrets: Option<String>,
+    pub(crate) revoked: Option<String>,
+}
+
+/// Whose credentials are accepted, as the options and their files say.
+#[derive(Drop)]
+struct Credentials {
+    users: Vec<User>,
+    secret: Option<Vec<u8>>,
+    former_secret: Option<Vec<u8>>,
+    revoked: Vec<[u8; 20]>,
+    texts: Texts,
+}
+
+/// Reads the files of users, of secrets and of revoked users, in this order.
+fn credentials_of<'a, R: Files + AllocGlobal>(
+    rt: &R,
+    options: &Options<'a>,
+) -> Result<Credentials, CommandError<'a>> {
+    let (users, users_text) = users_of(rt, options)?;
+    let (secret, former_secret, secrets_text) = match secrets_of(rt, options)? {
+        Some((secrets, text)) => (Some(secrets.secret), secrets.former, Some(text)),
+        None => (None, None, None),
+    };
+    let (revoked, revoked_text) = revoked_of(rt, options)?;
+    Ok(Credentials {
+        users,
+        secret,
+        former_secret,
+        revoked,
+        texts: Texts {
+            users: users_text,
+            secrets: secrets_text,
+            revoked: revoked_text,
+        },
+    })
+}
+
+/// A relay that can begin, and what the files that it was set up from had.
 #[derive(Drop)]
 pub(crate) struct Prepared {
     pub(crate) relay: Relay,
     pub(crate) programs: ProgramBytes,
-    /// The text of the file of users; `None` where no file is given.
-    pub(crate) users: Option<String>,
+    pub(crate) texts: Texts,
 }
 
 /// Reads the file of a program. `None` is one that isn't given or can't be read.
@@ -275,8 +335,7 @@ pub(crate) fn set_up<'a, R: Files + AllocGlobal>(
     let Ok(realm) = String::from_str(rt.alloc(), options.realm) else {
         return Err(CommandError::Memory);
     };
-    let (users, text) = users_of(rt, options)?;
-    let secret = secret_of(rt, options)?;
+    let credentials = credentials_of(rt, options)?;
     let programs = ProgramBytes {
         client: read_program(rt, options.client)?,
         peer: read_program(rt, options.peer)?,
@@ -286,10 +345,13 @@ pub(crate) fn set_up<'a, R: Files + AllocGlobal>(
         ip6: relayed.ip6,
         first_port: options.first_port,
         slots: options.slots,
+        user_slots: options.user_slots,
         realm,
         nonce,
-        users,
-        secret,
+        users: credentials.users,
+        secret: credentials.secret,
+        former_secret: credentials.former_secret,
+        revoked: credentials.revoked,
         client: program(options.client, &programs.client, CLIENT),
         peer: program(options.peer, &programs.peer, PEER),
     };
@@ -297,7 +359,7 @@ pub(crate) fn set_up<'a, R: Files + AllocGlobal>(
         Ok(relay) => Ok(Prepared {
             relay,
             programs,
-            users: text,
+            texts: credentials.texts,
         }),
         Err(error) => Err(setup_fault(error, options)),
     }

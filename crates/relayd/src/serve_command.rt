@@ -13,7 +13,7 @@ use peer_filter::PeerFilter;
 use rand::rngs::StdRng;
 use rand_core::Rng;
 use relay::{Disposition, Relay, Source};
-use replacing::{Sides, UserList};
+use replacing::{Contents, RereadFile, Sides};
 use server::{
     Arrival, ClockOffset, Counters, LinkFault, Moments, Outcome, Place, Ports, Schedule, TURNS,
     Timer, draw_nonce, serve_round, turn,
@@ -59,12 +59,13 @@ pub(crate) struct Server<'a> {
     pub(crate) relayed: Relayed,
     pub(crate) wire: Wire<'a>,
     pub(crate) sides: Sides<'a>,
-    pub(crate) users: UserList<'a>,
+    /// The files of users, of secrets and of revoked users that are read again.
+    pub(crate) reread: Vec<RereadFile<'a>>,
     pub(crate) moments: Moments,
     pub(crate) nonces: Timer,
     /// How far the system's clock is ahead, where names expire by it.
     pub(crate) clock: Option<ClockOffset>,
-    /// When the system's clock is looked at, and the files of programs and of users are read again.
+    /// When the system's clock is looked at, and files are read again.
     pub(crate) files: Timer,
     pub(crate) reports: Reports<'a>,
     /// Whether several datagrams had come at the endpoint that was served last.
@@ -87,6 +88,15 @@ struct Waiting {
 struct ServedEndpoints<'a, 'b, R: Clock> {
     server: &'b mut Server<'a>,
     rt: &'b R,
+}
+
+/// Returns why allocations, and the recording, end where what a file has is replaced.
+fn ends_of(contents: Contents<'_>) -> (EndReason, RecordEnd) {
+    match contents {
+        Contents::Users(_) => (EndReason::Users, RecordEnd::Users),
+        Contents::Secrets => (EndReason::Expired, RecordEnd::Secrets),
+        Contents::Revoked => (EndReason::Revoked, RecordEnd::Revoked),
+    }
 }
 
 impl<'a> Server<'a> {
@@ -198,13 +208,19 @@ impl<'a> Server<'a> {
         }
     }
 
-    /// Looks for other programs and users.
+    /// Looks for other programs, users, secrets and revoked users.
     fn look_at_files<R: Files + Clock + AllocGlobal, E: Write>(&mut self, rt: &R, err: &mut E) {
         self.sides.look(rt, err);
         self.log_ends(rt, EndReason::Expired);
-        if self.users.look(rt, err, &mut self.relay) {
-            self.log_ends(rt, EndReason::Users);
-            self.wire.recording.end(err, RecordEnd::Users);
+        for index in 0..self.reread.len() {
+            let Some(file) = self.reread.get_mut(index) else {
+                return;
+            };
+            if file.look(rt, err, &mut self.relay) {
+                let (reason, end) = ends_of(file.contents());
+                self.log_ends(rt, reason);
+                self.wire.recording.end(err, end);
+            }
         }
     }
 
@@ -259,7 +275,7 @@ impl<'a> Server<'a> {
     /// Returns the longest wait for a datagram. Without end where nothing but datagrams matters: a nonce that is due is
     /// drawn before the next of them is served.
     fn longest_wait(&self) -> Option<Duration> {
-        let has_files = self.sides.has_files() || self.users.has_file();
+        let has_files = self.sides.has_files() || !self.reread.is_empty();
         if has_files || self.reports.is_waiting(&self.wire.counters) {
             Some(Duration::from_secs(PERIOD))
         } else {

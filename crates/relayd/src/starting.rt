@@ -2,7 +2,7 @@
 
 use crate::clock::{elapsed, starting_now};
 use crate::filters::{PeerOptions, filter_of};
-use crate::options::{CommandError, Prepared, Relayed, set_up};
+use crate::options::{CommandError, Prepared, Relayed, Texts, set_up};
 use crate::serve_command::{Server, Wire};
 use command_line::{Options, ServerOptions, defaults, relayed_ip, relayed_ip6};
 use monitoring::{MetricsFile, RecordError, Recording, Reports, ServerLog};
@@ -10,10 +10,10 @@ use peer_filter::PeerFilter;
 use rand::make_rng;
 use rand::rngs::StdRng;
 use rand_core::Rng;
-use replacing::{ProgramFile, Sides, UserList};
+use replacing::{Contents, ProgramFile, RereadFile, Sides};
 use server::{ClockOffset, Counters, Timer};
 use sockets::{Addresses, BindError, EndpointSockets, SocketOptions, Sockets};
-use std::alloc::Global;
+use std::alloc::{AllocError, Global};
 use std::fs::File;
 use std::net::{Ipv4Addr, Ipv6Addr, Net};
 use std::random::RandomSource;
@@ -206,8 +206,45 @@ fn parts_of<'a, R: Files<File = File> + Net + RandomSource + AllocGlobal>(
     Ok(Parts { wire, reports })
 }
 
+/// Adds a file that is read again, if it is given, with the text that it had.
+fn add_file<'a>(
+    files: &mut Vec<RereadFile<'a>>,
+    path: Option<&'a str>,
+    contents: Contents<'a>,
+    text: Option<String>,
+) -> Result<(), AllocError> {
+    if let (Some(path), Some(text)) = (path, text) {
+        files.push(RereadFile::new(path, contents, text))?;
+    }
+    Ok(())
+}
+
+/// Returns the files of users, of secrets and of revoked users that are given, with the texts that they had.
+fn reread_files<'a>(
+    alloc: Global,
+    options: &Options<'a>,
+    texts: Texts,
+) -> Result<Vec<RereadFile<'a>>, AllocError> {
+    let users = Contents::Users(options.users.unwrap_or(&[]));
+    let mut files = Vec::new(alloc);
+    add_file(&mut files, options.users_file, users, texts.users)?;
+    add_file(
+        &mut files,
+        options.secret_file,
+        Contents::Secrets,
+        texts.secrets,
+    )?;
+    add_file(
+        &mut files,
+        options.revoked_file,
+        Contents::Revoked,
+        texts.revoked,
+    )?;
+    Ok(files)
+}
+
 /// Puts a server together.
-fn server_of<'a, R: Clock>(
+fn server_of<'a, R: Clock + AllocGlobal>(
     rt: &R,
     server_options: &ServerOptions<'a>,
     options: &Options<'a>,
@@ -215,7 +252,10 @@ fn server_of<'a, R: Clock>(
     set: Prepared,
     parts: Parts<'a>,
     now: Duration,
-) -> Server<'a> {
+) -> Result<Server<'a>, CommandError<'static>> {
+    let Ok(reread) = reread_files(rt.alloc(), options, set.texts) else {
+        return Err(CommandError::Memory);
+    };
     let client = ProgramFile {
         path: options.client,
         bytes: set.programs.client,
@@ -224,19 +264,19 @@ fn server_of<'a, R: Clock>(
         path: options.peer,
         bytes: set.programs.peer,
     };
-    Server {
+    Ok(Server {
         relay: set.relay,
         relayed,
         wire: parts.wire,
         sides: Sides::new(client, peer),
-        users: UserList::new(options.users.unwrap_or(&[]), options.users_file, set.users),
+        reread,
         moments: starting_now(rt),
         nonces: Timer::new(now, Duration::from_secs(server_options.nonce_lifetime)),
         clock: options.secret_file.is_some().then(ClockOffset::new),
         files: Timer::new(now, Duration::from_secs(FILES_PERIOD)),
         reports: parts.reports,
         is_busy: false,
-    }
+    })
 }
 
 /// Sets up a server: its relay, and then its sockets, all of which are bound.
@@ -256,5 +296,5 @@ pub(crate) fn start<'a, R: Files<File = File> + Net + Clock + RandomSource + All
     )?;
     let now = elapsed(rt);
     let parts = parts_of(rt, server_options, peers, options, relayed, now)?;
-    Ok(server_of(rt, server_options, options, relayed, set, parts, now))
+    server_of(rt, server_options, options, relayed, set, parts, now)
 }

@@ -1,10 +1,10 @@
-//! Programs and users that are replaced while a server runs.
+//! Programs, users and secrets that are replaced while a server runs.
 #![tactic(auto)]
 
 mod files;
 mod replacing;
-mod replacing_users;
+mod reread;
 mod watched;
 
 pub use replacing::{ProgramFile, Sides};
-pub use replacing_users::UserList;
+pub use reread::{Contents, RereadFile};

@@ -5,6 +5,7 @@ use crate::messages::change_all;
 use anyhow::{Context, Result, bail};
 use credentials::{
     AuthError, Authenticated, Directory, Key, TimeLimited, User, authenticate, check, hmac_sha1,
+    owner_of,
 };
 use rows::row::{Row, array, bytes, number, text};
 use std::alloc::Global;
@@ -183,6 +184,7 @@ fn checked(alloc: Global, row: &Row<'_>) -> Result<String> {
 pub fn answer(alloc: Global, row: &Row<'_>) -> Result<String> {
     match row.kind {
         "hmac" => hmac(alloc, row),
+        "owner" => Ok(hex::encode(alloc, owner_of(&bytes(alloc, row.word(0)?)?))?),
         "key" => Ok(hex::encode(alloc, key_of(alloc, row.word(0)?)?.bytes())?),
         "integrity" => {
             let (message, key) = (bytes(alloc, row.word(0)?)?, bytes(alloc, row.word(1)?)?);

@@ -4,7 +4,7 @@ use crate::accounts::{add_users, user_of};
 use anyhow::{Context, Result, bail};
 use arrayvec::ArrayString;
 use control::{Config, is_nonce};
-use credentials::User;
+use credentials::{User, owner_of};
 use rows::row::{Row, bytes, count, text};
 use std::alloc::Global;
 use std::net::Ipv6Addr;
@@ -39,6 +39,17 @@ fn clock_ahead(row: &Row<'_>) -> Result<i64> {
     }
 }
 
+/// Returns the users of a row that are revoked.
+fn revoked(alloc: Global, row: &Row<'_>) -> Result<Vec<[u8; 20]>> {
+    let mut owners = Vec::new(alloc);
+    for &(key, value) in &row.pairs {
+        if key == "revoked" {
+            owners.push(owner_of(value.as_bytes()))?;
+        }
+    }
+    Ok(owners)
+}
+
 /// Returns the configuration of a row: two slots from 203.0.113.1:49152 on, no IPv6 address, the realm `relay`, the nonce `n1`,
 /// and two users, where it doesn't say otherwise.
 pub fn config_of(alloc: Global, row: &Row<'_>) -> Result<Config> {
@@ -51,17 +62,27 @@ pub fn config_of(alloc: Global, row: &Row<'_>) -> Result<Config> {
         Some(digits) => Some(bytes(alloc, digits)?),
         None => None,
     };
+    let former_secret = match row.get("former_secret") {
+        Some(digits) => Some(bytes(alloc, digits)?),
+        None => None,
+    };
     Ok(Config {
         ip: [203, 0, 113, 1],
         ip6,
         first_port: u16::try_from(row.number_or("first_port", 49152)?)?,
         slots: count(row.get("slots").unwrap_or("2"))?,
+        user_slots: match row.get("user_slots") {
+            Some(text) => Some(count(text)?),
+            None => None,
+        },
         realm: text_or(alloc, row, "realm", "relay")?,
         nonce: ArrayString::from(&nonce)
             .ok()
             .context("the nonce is too long")?,
         users: users(alloc, row)?,
         secret,
+        former_secret,
+        revoked: revoked(alloc, row)?,
         clock_ahead: clock_ahead(row)?,
     })
 }

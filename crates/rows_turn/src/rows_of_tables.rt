@@ -2,6 +2,7 @@
 
 use anyhow::{Context, Result, bail, ensure};
 use attributes::{Addr, Family};
+use credentials::owner_of;
 use rows::row::{Row, address, count, number, number16, socket_address};
 use std::alloc::Global;
 use std::fmt::Write;
@@ -74,7 +75,8 @@ fn allocate(alloc: Global, tables: &mut Tables, row: &Row<'_>) -> Result<String>
     let family = family_of(row.word(1)?)?;
     let lifetime = row.word(2)?.parse::<u32>()?;
     let user = count(row.get("user").unwrap_or("0"))?;
-    let allocated = tables.allocate(moment(row)?, client, user, TX, family, lifetime);
+    let owner = owner_of(row.get("owner").unwrap_or("user").as_bytes());
+    let allocated = tables.allocate(moment(row)?, client, user, owner, TX, family, lifetime);
     Ok(match allocated {
         Ok(slot) => format!(in alloc; "slot {slot}")?,
         Err(error) => format!(in alloc; "{error:?}")?,
@@ -103,6 +105,16 @@ fn replace_users(alloc: Global, tables: &mut Tables, row: &Row<'_>) -> Result<St
         })?;
     }
     tables.replace_users(&indices);
+    Ok(String::new(alloc))
+}
+
+/// Ends the allocations of the owners of names.
+fn end_owned(alloc: Global, tables: &mut Tables, row: &Row<'_>) -> Result<String> {
+    let mut owners = Vec::new(alloc);
+    for word in &row.words {
+        owners.push(owner_of(word.as_bytes()))?;
+    }
+    tables.end_owned(&owners);
     Ok(String::new(alloc))
 }
 
@@ -171,7 +183,7 @@ fn allocation(alloc: Global, tables: &Tables, row: &Row<'_>) -> Result<String> {
     Ok(format!(in alloc; "{client} {family}")?)
 }
 
-/// Returns what a look-up of one channel or peer finds.
+/// Returns what a look-up of one channel or peer finds, and how many are counted.
 fn look_up(alloc: Global, tables: &Tables, row: &Row<'_>) -> Result<String> {
     let (slot, now) = (slot(row)?, moment(row)?);
     let found = match row.kind {
@@ -189,6 +201,10 @@ fn look_up(alloc: Global, tables: &Tables, row: &Row<'_>) -> Result<String> {
         "permitted" => {
             let is_permitted = tables.permitted(slot, address(row.word(0)?)?, now, &mut Uncounted);
             String::from_str(alloc, if is_permitted { "yes" } else { "no" })?
+        }
+        "allocations-of" => {
+            let count = tables.allocations_of(&owner_of(row.word(0)?.as_bytes()), now);
+            format!(in alloc; "{count}")?
         }
         "channel-count" => {
             let count = tables.channels(slot, now).len();
@@ -213,6 +229,7 @@ fn answer_over(alloc: Global, tables: &mut Tables, row: &Row<'_>) -> Result<Stri
         }
         "bind" => bind(alloc, tables, row),
         "replace-users" => replace_users(alloc, tables, row),
+        "end-owned" => end_owned(alloc, tables, row),
         "find" => find(alloc, tables, moment(row)?),
         "permissions" => permissions(alloc, tables, row),
         "channels" => channels(alloc, tables, row),

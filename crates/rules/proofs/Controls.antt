@@ -1,18 +1,14 @@
 -- What `respond` promises is the answer of the rules.
-use Rattle.std.proofs.Common.{◌≡◌, ℕ, ◌⊎◌, true, List, [], ◌∷◌, refl, sym, ap, subst, ◌∙◌, inl, inr, eqb-true, eq-eqb}
-use Rattle.std.specs.Prelude.{◌==◌, Option, None, Some, Result, IfSome, IsSomeAnd, string_bytes}
+use Rattle.std.proofs.Common.{◌≡◌, ℕ, ◌⊎◌, true, List, [], ◌∷◌, refl, sym, ap, ◌∙◌, inl, inr, eqb-true, eq-eqb}
+use Rattle.std.specs.Prelude.{◌==◌, Option, None, Some, IfSome, IsSomeAnd}
 use Rattle.std.proofs.lemmas.Bool.{cases_Bool, cond-true, cond-false, both_ways}
 use Rattle.std.proofs.lemmas.Option.{same_Some}
 use Rattle.stun.specs.Messages.{Parts}
 use Rattle.stun.specs.declared.registry.Class.TheVariants as class
 use Rattle.addresses.specs.declared.address.Addr.{Addr}
-use Rattle.credentials.specs.Checks.{Directory, IsChecked, user_in}
-use Rattle.credentials.specs.TimeLimited.{Account}
-use Rattle.credentials.specs.Results.{check_result}
-use Rattle.credentials.specs.declared.checking.AuthError.{AuthError}
-use Rattle.control.specs.Control.{Decision, decision, binding}
+use Rattle.control.specs.Control.{Decision, binding}
 use Rattle.control.specs.Replies.{kind_of}
-use Rattle.control.specs.Responding.{Responds, Answers, IsSilent, IsAnswer, directory_for, key_for, response_of}
+use Rattle.control.specs.Responding.{Responds, Answers, IsSilent, IsAnswer}
 use Rattle.control.specs.declared.response.Response.{Response}
 use Rattle.tables.specs.Addresses.{is_ipv4}
 use Rattle.control.specs.declared.config.Config.{Config}
@@ -22,7 +18,7 @@ use Rattle.control.specs.declared.request.TurnRequest.TheVariants as turn
 use Rattle.tables.specs.Rows.{Rows, rows_at}
 use Rattle.rules.specs.Dispositions.{response_to, disposition_of_response, disposition_of_request}
 use Rattle.rules.specs.declared.disposition.Disposition.TheVariants.{Answered}
-use Rattle.rules.specs.ByRules.{requests, request_among, request_of, check_of, decision_and_key, reply_with, reply_to_request, control}
+use Rattle.rules.specs.ByRules.{requests, request_among, request_of, decision_and_key, reply_with, reply_to_request, control}
 use Rattle.rules.specs.Answers.{reply_sent}
 use Rattle.rules.specs.Systems.{SystemReply, no_answer}
 
@@ -65,26 +61,16 @@ all_requests (request.Turn turn.ChannelBind) = inr (inr (inr (inr (inl refl))))
 
 -- ---- answers
 
--- a result of the check is the one that the function of a message gives
-abbrev pub AreChecked : Type 0
-AreChecked = (p : Parts) (realm : List ℕ) (accounts : Directory) (nonce : List ℕ) (r : Result Account AuthError)
-    → IsChecked p realm accounts nonce r → r ≡ check_result p realm accounts nonce
-
-module _ (are_checked : AreChecked) (config : Config) (now : ℕ) (client : Addr) (p : Parts) (old new : Rows) (written : List ℕ) (says : Option Response) where
+module _ (config : Config) (now : ℕ) (client : Addr) (p : Parts) (old new : Rows) (written : List ℕ) (says : Option Response) where
   abbrev reply_of : SystemReply
   reply_of = record { answer = reply_sent client written; rows = new }
 
   with_decision : (r : Request) (key : Option (List ℕ)) (d : Decision) → IsAnswer config r client p key d old new written → reply_with config r client p old (d, key) ≡ reply_of
   with_decision r key d is = λ i. record { answer = reply_sent client (sym is.bytes i); rows = sym is.rows i }
 
-  checked_is : (c : Result Account AuthError) → IsChecked p (string_bytes config.realm) (directory_for config client now (rows_at now old)) config.nonce.bytes c → c ≡ check_of config now client p old
-  checked_is c is = are_checked p (string_bytes config.realm) (directory_for config client now (rows_at now old)) config.nonce.bytes c is
-
   with_request : (r : Request) (s : Response) → Answers config now r client p old new written s → reply_with config r client p old (decision_and_key config now r client p old) ≡ reply_of
   with_request request.Binding s is = with_decision request.Binding None (binding p) is.0
-  with_request (request.Turn r) s is =
-      subst (λ c. reply_with config (request.Turn r) client p old (decision r (user_in c) config client p (rows_at now old), key_for c) ≡ reply_of)
-      (checked_is is.checked is.is_checked) (with_decision (request.Turn r) _ _ is.answer)
+  with_request (request.Turn r) s is = with_decision (request.Turn r) _ _ is.answer
 
   silent_is : IsSilent old new written says → no_answer old ≡ reply_of
   silent_is is = λ i. record { answer = reply_sent client (sym is.bytes i); rows = sym is.rows i }
@@ -103,7 +89,7 @@ module _ (are_checked : AreChecked) (config : Config) (now : ℕ) (client : Addr
 
   says_of : (r : Request) (s : Response) → Answers config now r client p old new written s → s ≡ response_to config now r client p old
   says_of request.Binding s is = is.1
-  says_of (request.Turn r) s is = is.response ∙ ap (λ c. response_of (user_in c) (decision r (user_in c) config client p (rows_at now old))) (checked_is is.checked is.is_checked)
+  says_of (request.Turn r) s is = is.response
 
   says_by_request : is_ipv4 client ≡ true → Responds config now client p old new written says → (o : Option Request) → request_of p.kind ≡ o → disposition_of_response says ≡ disposition_of_request config now client p old o
   says_by_request ipv4 responds None e = ap disposition_of_response (responds.other (λ r same. none_among p.kind requests r (all_requests r) same e)).response

@@ -4,11 +4,12 @@ use Rattle.stun.specs.Datagrams.{message_in}
 use Rattle.stun.specs.Messages.{Parts}
 use Rattle.addresses.specs.declared.address.Addr.{Addr}
 use Rattle.credentials.specs.TimeLimited.{Account}
+use Rattle.control.specs.Responding.{check_of}
 use Rattle.control.specs.declared.config.Config.{Config}
 use Rattle.control.specs.declared.request.Request.TheVariants as request
 use Rattle.control.specs.declared.request.TurnRequest.{TurnRequest}
 use Rattle.tables.specs.Rows.{Rows}
-use Rattle.rules.specs.ByRules.{check_of, request_of}
+use Rattle.rules.specs.ByRules.{request_of}
 
 -- a request of TURN of an account whose credentials are accepted at a moment
 pub record IsAuthenticated (config : Config) (now : ℕ) (client : Addr) (rows : Rows) (bytes : List ℕ) : Type 0 where

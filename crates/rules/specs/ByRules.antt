@@ -1,17 +1,14 @@
 -- Meaning. The system by rules: requests are answered, ChannelData and Send indications are relayed, and the datagrams of
 -- peers are.
-use Rattle.std.specs.Prelude.{ℕ, List, [], ◌∷◌, ◌==◌, Option, None, Some, Result, string_bytes, if◌then◌else◌}
+use Rattle.std.specs.Prelude.{ℕ, List, [], ◌∷◌, ◌==◌, Option, None, Some, if◌then◌else◌}
 use Rattle.stun.specs.Datagrams.{message_in}
 use Rattle.stun.specs.Messages.{Parts, parts_bytes}
 use Rattle.stun.specs.declared.registry.Class.TheVariants as class
 use Rattle.addresses.specs.declared.address.Addr.{Addr}
-use Rattle.credentials.specs.Results.{check_result}
 use Rattle.credentials.specs.Checks.{user_in}
-use Rattle.credentials.specs.TimeLimited.{Account}
-use Rattle.credentials.specs.declared.checking.AuthError.{AuthError}
 use Rattle.control.specs.Control.{Decision, grant_of, rows_of, decision, binding}
 use Rattle.control.specs.Replies.{kind_of, reply_to}
-use Rattle.control.specs.Responding.{directory_for, key_for}
+use Rattle.control.specs.Responding.{check_of, key_for}
 use Rattle.control.specs.declared.config.Config.{Config}
 use Rattle.control.specs.declared.request.Request.{Request}
 use Rattle.control.specs.declared.request.Request.TheVariants as request
@@ -42,11 +39,6 @@ request_among kind (r ∷ rest) = if kind_of r class.Request == kind then Some r
 -- the request of a message type, if it is one that is answered
 abbrev pub request_of : ℕ → Option Request
 request_of kind = request_among kind requests
-
--- the account whose credentials a request of a client has, or the first test that fails
-abbrev pub check_of : Config → ℕ → Addr → Parts → Rows → Result Account AuthError
-check_of config now client p rows =
-    check_result p (string_bytes config.realm) (directory_for config client now (rows_at now rows)) config.nonce.bytes
 
 -- what is decided, and the key that the reply is signed under; that to Binding is not signed
 abbrev pub decision_and_key : Config → ℕ → Request → Addr → Parts → Rows → Decision × Option (List ℕ)

@@ -10,7 +10,7 @@ use Rattle.addresses.specs.Addresses.{is_of_family}
 use Rattle.addresses.specs.declared.address.Addr.{Addr}
 use Rattle.credentials.specs.Checks.{first_value, user_in}
 use Rattle.control.specs.Control.{all_understood, binding, decision, grant_of}
-use Rattle.control.specs.Responding.{response_of, response_of_result}
+use Rattle.control.specs.Responding.{check_of, response_of, response_of_result}
 use Rattle.control.specs.declared.config.Config.{Config}
 use Rattle.control.specs.declared.request.Request.{Request}
 use Rattle.control.specs.declared.request.Request.TheVariants as request
@@ -18,7 +18,7 @@ use Rattle.control.specs.declared.response.Response.{Response}
 use Rattle.tables.specs.Rows.{Rows, rows_at}
 use Rattle.tables.specs.LookUps.{allocation_of, peer_of, has_permission}
 use Rattle.basics.specs.Fallible.{◌>>=◌, check}
-use Rattle.rules.specs.ByRules.{request_of, check_of}
+use Rattle.rules.specs.ByRules.{request_of}
 use Rattle.rules.specs.FastPart.{begins_as_stun}
 use Rattle.rules.specs.Rules.{send_indication}
 use Rattle.rules.specs.declared.answer.Answer.{Answer}

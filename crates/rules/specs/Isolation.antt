@@ -7,6 +7,7 @@ use Rattle.control.specs.declared.config.Config.{Config}
 use Rattle.events.specs.declared.meta.Source.{Source}
 use Rattle.events.specs.declared.meta.Source.TheVariants.{Client, Peer}
 use Rattle.tables.specs.Changes.{first_free}
+use Rattle.tables.specs.Counts.{allocations_of}
 use Rattle.tables.specs.LookUps.{held_in}
 use Rattle.tables.specs.Rows.{Rows, rows_at}
 use Rattle.tables.specs.WellFormed.{AreWellFormed}
@@ -35,12 +36,20 @@ abbrev pub next_slot : Source → Rows → Option ℕ
 next_slot (Client client) rows = first_free rows
 next_slot (Peer slot peer) rows = None
 
--- two tables look alike to a source: they have the same own rows, at the same moment, and the same slot is free next
-pub record LookAlike (from : Source) (a b : Rows) : Type 0 where
+-- where users have a quota, a client is given an allocation by how many its user has
+abbrev pub HaveSameCounts : Option ℕ → Source → Rows → Rows → Type 0
+HaveSameCounts None from a b = Unit {0}
+HaveSameCounts (Some quota) (Client client) a b = (owner : List ℕ) → allocations_of owner a ≡ allocations_of owner b
+HaveSameCounts (Some quota) (Peer slot peer) a b = Unit {0}
+
+-- Two tables look alike to a source: they have the same own rows, at the same moment, and the same slot is free next; and where
+-- users have a quota, each has as many allocations.
+pub record LookAlike (quota : Option ℕ) (from : Source) (a b : Rows) : Type 0 where
   pub moment : a.moment ≡ b.moment
   pub count : length a.slots ≡ length b.slots
   pub own : own_rows from a ≡ own_rows from b
   pub next : next_slot from a ≡ next_slot from b
+  pub counts : HaveSameCounts quota from a b
 
 -- the rows of all other clients are the same, each at its slot; a peer's datagram changes none
 abbrev pub KeepsOthers : Source → Rows → Rows → Type 0
@@ -52,9 +61,9 @@ KeepsOthers (Peer slot peer) before after = before.slots ≡ after.slots
 -- For a datagram with its source, at a moment: over two tables that look alike to the source a system sends the same, and leaves
 -- the same own rows; and over any it leaves the rows of all others as they are.
 pub record ActsOnItsOwn (system : System) (config : Config) (now : ℕ) (tx : List ℕ) (from : Source) (bytes : List ℕ) : Type 0 where
-  pub answer : (a b : Rows) → AreWellFormed a → AreWellFormed b → LookAlike from (rows_at now a) (rows_at now b)
+  pub answer : (a b : Rows) → AreWellFormed a → AreWellFormed b → LookAlike config.user_slots from (rows_at now a) (rows_at now b)
       → (system config now tx from a bytes).answer ≡ (system config now tx from b bytes).answer
-  pub own : (a b : Rows) → AreWellFormed a → AreWellFormed b → LookAlike from (rows_at now a) (rows_at now b)
+  pub own : (a b : Rows) → AreWellFormed a → AreWellFormed b → LookAlike config.user_slots from (rows_at now a) (rows_at now b)
       → own_rows from (rows_at now (system config now tx from a bytes).rows) ≡ own_rows from (rows_at now (system config now tx from b bytes).rows)
   pub others : (rows : Rows) → AreWellFormed rows
       → KeepsOthers from (rows_at now rows) (rows_at now (system config now tx from rows bytes).rows)

@@ -12,7 +12,6 @@ use crate::disposition::Discard;
 use crate::relaying::{begins_as_stun, channel_data, send};
 use attributes::Addr;
 use control::{Config, REPLY_BYTES, respond};
-use credentials::law_results_are_checked;
 use stun::read;
 use stun::registry::{Class, MessageType, Method};
 use tables::{Count, Tables};
@@ -60,6 +59,5 @@ pub fn answer_client<C: Count>(
     if message.kind() == SEND.kind() {
         return send(tables, moment, client, &message, keys);
     }
-    law_results_are_checked();
     reply_of(respond(tables, config, moment, client, &message, out))
 }

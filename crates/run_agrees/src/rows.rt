@@ -50,7 +50,7 @@ pub fn other_peer() -> Addr
 /// Where memory runs out.
 pub fn tables(alloc: Global) -> Result<Tables> {
     let mut tables = Tables::new(alloc, 2)?;
-    let slot = tables.allocate(NOW, client(), 0, [1; 12], Family::Ipv4, LIFETIME)?;
+    let slot = tables.allocate(NOW, client(), 0, [0; 20], [1; 12], Family::Ipv4, LIFETIME)?;
     tables.bind(NOW, slot, FIRST_CHANNEL, peer())?;
     Ok(tables)
 }
@@ -61,7 +61,7 @@ pub fn tables(alloc: Global) -> Result<Tables> {
 /// Where memory runs out.
 pub fn worked_tables(alloc: Global) -> Result<Tables> {
     let mut tables = Tables::new(alloc, 2)?;
-    let slot = tables.allocate(NOW, client(), 0, [1; 12], Family::Ipv4, LIFETIME)?;
+    let slot = tables.allocate(NOW, client(), 0, [0; 20], [1; 12], Family::Ipv4, LIFETIME)?;
     tables.bind(NOW, slot, FIRST_CHANNEL + 1, other_peer())?;
     Ok(tables)
 }

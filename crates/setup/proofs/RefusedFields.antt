@@ -15,10 +15,13 @@ config_of s nonce = record {
   ip6 = s.ip6;
   first_port = s.first_port;
   slots = s.slots;
+  user_slots = s.user_slots;
   realm = s.realm;
   nonce = nonce;
   users = s.users;
   secret = s.secret;
+  former_secret = s.former_secret;
+  revoked = s.revoked;
   clock_ahead = pos 0;
 }
 
@@ -30,6 +33,6 @@ has_fault s nonce client peer field copied fits is_client is_peer fault_is = rec
   client = (client, is_client);
   peer = (peer, is_peer);
   config = config_of s nonce;
-  is_config = record { ip = refl; ip6 = refl; first_port = refl; slots = refl; realm = refl; nonce = copied; users_are = refl; secret = refl; clock = refl };
+  is_config = record { ip = refl; ip6 = refl; first_port = refl; slots = refl; user_slots = refl; realm = refl; nonce = copied; users_are = refl; secret = refl; former_secret = refl; revoked = refl; clock = refl };
   is_fault = fault_is;
 }

@@ -31,10 +31,13 @@ pub record IsConfigOf (s : Setup) (c : Config) : Type 0 where
   pub ip6 : c.ip6 ≡ s.ip6
   pub first_port : c.first_port ≡ s.first_port
   pub slots : c.slots ≡ s.slots
+  pub user_slots : c.user_slots ≡ s.user_slots
   pub realm : string_bytes c.realm ≡ string_bytes s.realm
   pub nonce : c.nonce.bytes ≡ s.nonce.now
   pub users_are : c.users.items ≡ s.users.items
   pub secret : c.secret ≡ s.secret
+  pub former_secret : c.former_secret ≡ s.former_secret
+  pub revoked : c.revoked ≡ s.revoked
   pub clock : c.clock_ahead ≡ pos 0
 
 -- the bytes were read, and this program is loaded from them

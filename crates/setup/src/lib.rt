@@ -3,6 +3,7 @@
 
 mod aliases;
 mod error;
+mod revoked;
 pub mod sample;
 mod secrets;
 mod setting_up;
@@ -10,7 +11,8 @@ mod users;
 
 pub use aliases::alias;
 pub use error::{ProgramError, RefusedProgram, SetupError};
-pub use secrets::secret;
+pub use revoked::{MAX_REVOKED, RevokedError, revoked_in};
+pub use secrets::{Secrets, SecretsError, secrets_in};
 pub use setting_up::{Setup, program, relay_of};
 pub use users::{
     LineFault, TextFault, UsersError, add_users, add_users_of_lines, is_comment, user,

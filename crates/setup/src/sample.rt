@@ -30,10 +30,13 @@ pub fn config(alloc: Global, ip: [u8; 4], slots: usize) -> Result<Config, AllocE
         ip6: None,
         first_port: 49152,
         slots,
+        user_slots: None,
         realm: String::from_str(alloc, "relay")?,
         nonce,
         users,
         secret: None,
+        former_secret: None,
+        revoked: Vec::new(alloc),
         clock_ahead: 0,
     })
 }

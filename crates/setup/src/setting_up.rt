@@ -29,6 +29,8 @@ pub struct Setup<'a> {
     pub first_port: u16,
     /// The number of slots, 1 to 256; the last port is at most 65,535.
     pub slots: usize,
+    /// How many allocations a user may have at once, if that is limited.
+    pub user_slots: Option<usize>,
     /// The realm: 1 to 128 bytes of 0x20 to 0x7E.
     pub realm: String,
     /// The nonce: 1 to 64 bytes of 0x21 to 0x7E.
@@ -37,6 +39,10 @@ pub struct Setup<'a> {
     pub users: Vec<User>,
     /// The secret of time-limited credentials: 16 to 128 bytes; `None` where none are accepted.
     pub secret: Option<Vec<u8>>,
+    /// The former secret, under which they are accepted as well: 16 to 128 bytes, if there is one.
+    pub former_secret: Option<Vec<u8>>,
+    /// The users that are revoked, each by the digest of its name.
+    pub revoked: Vec<[u8; 20]>,
     /// The bytes of the program for clients' datagrams; `None` where its file can't be read.
     pub client: Option<&'a [u8]>,
     /// The bytes of the program for peers' datagrams; `None` where its file can't be read.
@@ -95,10 +101,13 @@ fn unconfined_relay_of(alloc: Global, setup: Setup<'_>) -> Result<Relay, SetupEr
         ip6: setup.ip6,
         first_port: setup.first_port,
         slots: setup.slots,
+        user_slots: setup.user_slots,
         realm: setup.realm,
         nonce,
         users: setup.users,
         secret: setup.secret,
+        former_secret: setup.former_secret,
+        revoked: setup.revoked,
         clock_ahead: 0,
     };
     match Relay::new(alloc, config, client, peer) {

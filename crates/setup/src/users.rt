@@ -72,7 +72,7 @@ pub fn user(alloc: Global, text: &str) -> Result<Option<User>, AllocError>
 }
 
 /// Returns why a text doesn't have 1 to 128 bytes from `least` to 0x7E.
-fn text_fault(text: &[u8], least: u8) -> Option<TextFault>
+pub(crate) fn text_fault(text: &[u8], least: u8) -> Option<TextFault>
     ensures { IfNone result (IsTrue (is_text least MAX_TEXT text.now)) }
 {
     if is_text(text, least, MAX_TEXT) {

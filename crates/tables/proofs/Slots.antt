@@ -1,5 +1,5 @@
 -- The slots as they are stored, and the live rows.
-use Rattle.std.proofs.Common.{◌≡◌, ℕ, zero, suc, ◌+◌, ◌<◌, ◌≤◌, true, false, cond, List, ◌∷◌, length, take, get_or, set, find, replicate, slice_get, nat_lt, Option, Some, None, is_some, is_none, option_and_then, sym, refl, ap, ◌∙◌, take_all, arith}
+use Rattle.std.proofs.Common.{◌≡◌, ℕ, zero, suc, ◌+◌, ◌<◌, ◌≤◌, Bool, true, false, cond, List, ◌∷◌, length, take, get_or, set, find, replicate, slice_get, nat_lt, Option, Some, None, is_some, is_none, option_and_then, sym, refl, ap, ◌∙◌, take_all, arith}
 use Rattle.std.specs.List.{position_or_len, count_by}
 use Rattle.std.specs.Option.{option_flatten}
 use Rattle.std.proofs.lemmas.Bool.{cond-true, cond-false, ltb-true, lt-ltb, le-ltb, both_ways}
@@ -10,7 +10,6 @@ use Rattle.std.proofs.lemmas.Option.{slice_get-get_or, slice_get_read}
 use Rattle.addresses.specs.declared.address.Addr.{Addr}
 use Rattle.tables.specs.Rows.{Rows, held_at, slots_at, live_rows}
 use Rattle.tables.specs.LookUps.{held_in, held_by, is_of}
-use Rattle.tables.specs.Counts.{allocation_count}
 use Rattle.tables.specs.Changes.{with_held, first_free}
 use Rattle.tables.specs.laws.Row.{live_again, held_in-live}
 use Rattle.tables.specs.declared.held.Held.{Held}
@@ -84,18 +83,19 @@ pub holds_some : (o : Option Held) → is_some o ≡ true → is_none o ≡ fals
 holds_some None h = absurd (both_ways false refl h)
 holds_some (Some held) h = refl
 
--- ---- how many slots hold an allocation
+-- ---- how many slots hold what is counted
 
-pub counted_one : (rows : Rows) (i n : ℕ) → i < length rows.slots → n ≡ count_by is_some (take i rows.slots) → is_some (held_in rows i) ≡ true → n + 1 ≡ count_by is_some (take (i + 1) rows.slots)
-counted_one rows i n l before here =
-    omega (arith, before, count_by_more_yes is_some rows.slots i None l (ap is_some (sym (get_flat rows.slots i None l)) ∙ here))
+module _ (counts : Option Held → Bool) (rows : Rows) (i n : ℕ) (before : n ≡ count_by counts (take i rows.slots)) where
+  pub counted_one : i < length rows.slots → counts (held_in rows i) ≡ true → n + 1 ≡ count_by counts (take (i + 1) rows.slots)
+  counted_one l here =
+      omega (arith, before, count_by_more_yes counts rows.slots i None l (ap counts (sym (get_flat rows.slots i None l)) ∙ here))
 
-pub counted_none : (rows : Rows) (i n : ℕ) → i < length rows.slots → n ≡ count_by is_some (take i rows.slots) → is_some (held_in rows i) ≡ false → n ≡ count_by is_some (take (i + 1) rows.slots)
-counted_none rows i n l before here =
-    before ∙ sym (count_by_more_no is_some rows.slots i None l (ap is_some (sym (get_flat rows.slots i None l)) ∙ here))
+  pub counted_none : i < length rows.slots → counts (held_in rows i) ≡ false → n ≡ count_by counts (take (i + 1) rows.slots)
+  counted_none l here =
+      before ∙ sym (count_by_more_no counts rows.slots i None l (ap counts (sym (get_flat rows.slots i None l)) ∙ here))
 
-pub counted_all : (rows : Rows) (i n : ℕ) → length rows.slots ≤ i → n ≡ count_by is_some (take i rows.slots) → n ≡ allocation_count rows
-counted_all rows i n l before = before ∙ ap (count_by is_some) (take_all i rows.slots l)
+  pub counted_all : length rows.slots ≤ i → n ≡ count_by counts rows.slots
+  counted_all l = before ∙ ap (count_by counts) (take_all i rows.slots l)
 
 -- ---- no rows
 

@@ -41,11 +41,11 @@ first_free rows = position is_none rows.slots
 abbrev pub fresh : Allocation → Held
 fresh allocation = record { allocation = allocation; permissions = empty; channels = empty }
 
-abbrev pub allocation_change : Addr → ℕ → List ℕ → Family → ℕ → Rows → Change ℕ
-allocation_change client user tx family lifetime rows = do
+abbrev pub allocation_change : Addr → ℕ → List ℕ → List ℕ → Family → ℕ → Rows → Change ℕ
+allocation_change client user owner tx family lifetime rows = do
   _ ← check (is_none (allocation_of client rows)) Mismatch
   slot ← ok_or (first_free rows) Capacity
-  Ok (slot, with_held rows slot (fresh (record { slot = slot; client = client; family = family; user = user; tx = tx; lifetime = lifetime; end = rows.moment + lifetime })))
+  Ok (slot, with_held rows slot (fresh (record { slot = slot; client = client; family = family; user = user; owner = owner; tx = tx; lifetime = lifetime; end = rows.moment + lifetime })))
 
 -- a new end; with a lifetime of 0 the allocation has ended
 abbrev pub refresh_change : ℕ → ℕ → Rows → Change (Unit {0})

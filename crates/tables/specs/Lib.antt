@@ -12,6 +12,7 @@ pub mod WellFormed
 pub mod Changes
 pub mod Counts
 pub mod Users
+pub mod NewUsers
 pub mod Storage
 pub mod Retained
 pub mod SortedRows

@@ -14,6 +14,8 @@ pub struct Allocation {
     pub family: Family,
     /// The user whose credentials made it, by index.
     pub user: usize,
+    /// Whom it is counted for: the digest of a name.
+    pub owner: [u8; 20],
     /// The transaction id of the Allocate request that made it.
     pub tx: [u8; 12],
     /// The lifetime that this request was given, in seconds.

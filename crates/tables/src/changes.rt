@@ -27,12 +27,13 @@ impl Tables {
         now: u64,
         client: Addr,
         user: usize,
+        owner: [u8; 20],
         tx: [u8; 12],
         family: Family,
         lifetime: u32,
     ) -> Result<usize, TableError>
         requires ipv4 { IsTrue (is_ipv4 client) }
-        ensures follows { Follows (allocation_change client user tx family lifetime (rows_at now self.old)) self.old result self.new }
+        ensures follows { Follows (allocation_change client user owner tx family lifetime (rows_at now self.old)) self.old result self.new }
         ensures inside { IfOk result (λ slot. slot < length self.old.slots) }
         ensures moment { (self.old.moment ≤ self.new.moment) × (self.new.moment ≤ moment_of self.old.moment now) }
         ensures slots { length self.new.slots ≡ length self.old.slots }
@@ -48,6 +49,7 @@ impl Tables {
             client,
             family,
             user,
+            owner,
             tx,
             lifetime,
             end: moment + u64::from(lifetime),

@@ -7,7 +7,7 @@ use crate::held::Held;
 use crate::live_slot::LiveSlot;
 use crate::moment::moment_of;
 use crate::search::{place_of, put_at, search};
-use crate::users::replace_each_user;
+use crate::users::{NewUsers, replace_each_user};
 use arrayvec::ArrayVec;
 use attributes::Addr;
 use basics::steps::Count;
@@ -49,10 +49,11 @@ impl Tables {
     ghost use Rattle.std.specs.Prelude.{◌≡◌, ◌+◌, ◌≤◌, ◌<◌, IfOk, IfSome, None, Some, is_some, length};
     ghost use Rattle.tables.specs.Moments.{moment_of};
     ghost use Rattle.tables.specs.Rows.{no_rows, live_rows, rows_at};
-    ghost use Rattle.tables.specs.Counts.{allocation_count};
+    ghost use Rattle.tables.specs.Counts.{allocation_count, is_owned_by, allocations_of};
     ghost use Rattle.tables.specs.LookUps.{held_in, held_by};
     ghost use Rattle.tables.specs.Changes.{first_free, with_held};
-    ghost use Rattle.tables.specs.Users.{rows_of_users, index_in};
+    ghost use Rattle.tables.specs.Users.{rows_for, rows_of_users, rows_without, index_in};
+    ghost use Rattle.tables.specs.NewUsers.{user_after};
     ghost use Rattle.tables.specs.WellFormed.{IsHeldAt, AreWellFormed};
     ghost use Rattle.tables.specs.Stored.{client_in};
     ghost use Rattle.tables.specs.declared.moment.TheConstants.{LATEST};
@@ -168,6 +169,31 @@ impl Tables {
         count
     }
 
+    /// Returns whether a slot holds an allocation of an owner that is live at a moment.
+    fn is_owned(&self, slot: usize, moment: u64, owner: &[u8; 20]) -> bool
+        requires later { self.now.moment ≤ moment }
+        ensures { result ≡ is_owned_by owner.now (held_in (live_rows moment self.now) slot) }
+    {
+        match self.live(slot, moment) {
+            Some(live) => live.allocation().owner == *owner,
+            None => false,
+        }
+    }
+
+    /// Returns the number of allocations of an owner that are live at a moment.
+    pub fn allocations_of(&self, owner: &[u8; 20], now: u64) -> usize
+        ensures { result ≡ allocations_of owner.now (rows_at now self.now) }
+    {
+        let moment = self.moment_at(now);
+        let mut count = 0;
+        for slot in 0..self.slots.len() {
+            if self.is_owned(slot, moment, owner) {
+                count += 1;
+            }
+        }
+        count
+    }
+
     /// Puts into a free slot what it holds for a new client from a moment on, the greatest so far.
     pub(crate) fn admit(&mut self, slot: usize, moment: u64, held: Held)
         requires inside { slot < length self.old.slots }
@@ -196,7 +222,21 @@ impl Tables {
     pub fn replace_users(&mut self, indices: &[Option<usize>])
         ensures { self.new ≡ rows_of_users (index_in indices.now) self.old }
     {
-        replace_each_user(&mut self.slots, indices);
+        self.replace_each(NewUsers::Indices(indices));
+    }
+
+    /// Ends the allocations of some owners, with their permissions and channels. Nothing else changes.
+    pub fn end_owned(&mut self, owners: &[[u8; 20]])
+        ensures { self.new ≡ rows_without owners.now self.old }
+    {
+        self.replace_each(NewUsers::Without(owners));
+    }
+
+    /// Gives each allocation its other user, and ends those that have none.
+    fn replace_each(&mut self, users: NewUsers<'_>)
+        ensures { self.new ≡ rows_for (user_after users.entry) self.old }
+    {
+        replace_each_user(&mut self.slots, users);
         self.clients = with_slots(self.clients.as_slice(), &self.slots);
     }
 }

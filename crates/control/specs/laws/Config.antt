@@ -30,6 +30,7 @@ pub record IsWithinLimits (c : Config) : Type 0 where
   pub each_user : list_all is_user c.users.items ≡ true
   pub distinct : are_distinct c.users.items ≡ true
   pub secret : is_secret c.secret ≡ true
+  pub former_secret : is_secret c.former_secret ≡ true
 
 -- the first of some fields that is not valid: there is none, so each is
 passes : (b : Bool) {X : Type 0} (x : X) (rest : Option X) → cond (not b) (Some x) rest ≡ None → (b ≡ true) × (rest ≡ None)
@@ -57,6 +58,7 @@ within_limits c e =
     let ports = both _ _ second.0 in
     let users = both _ _ fifth.0 in
     let few = both _ _ users.0 in
+    let secrets = both _ _ sixth.0 in
     record {
       first_port = leb-true _ _ first.0;
       slots = between 1 256 c.slots ports.0;
@@ -66,5 +68,6 @@ within_limits c e =
       users = between (least_users (is_some c.secret)) 64 (length c.users.items) few.0;
       each_user = few.1;
       distinct = users.1;
-      secret = sixth.0;
+      secret = secrets.0;
+      former_secret = secrets.1;
     }

@@ -21,7 +21,7 @@ use Rattle.credentials.specs.TimeLimited.{Account}
 use Rattle.credentials.specs.declared.checking.AuthError.{AuthError}
 use Rattle.control.specs.Control.{Decision, all_understood, binding, decision, grant_of, refused_credentials}
 use Rattle.control.specs.Replies.{error_attributes, grant_attributes, relayed_address, reply_to}
-use Rattle.control.specs.Responding.{key_for}
+use Rattle.control.specs.Responding.{check_of, key_for}
 use Rattle.control.specs.Unknown.{unknown_types}
 use Rattle.control.specs.declared.config.Config.{Config}
 use Rattle.control.specs.declared.reply.Grant.{Grant}
@@ -36,7 +36,7 @@ use Rattle.events.specs.Events.{Sending}
 use Rattle.basics.specs.Options.{◌>>=◌, guard}
 use Rattle.rules.specs.Amplification.{IsRelayed, RespondsTo, bytes_sent, challenge_length, longest_unauthenticated}
 use Rattle.rules.specs.Authentication.{IsAuthenticated}
-use Rattle.rules.specs.ByRules.{check_of, control, from_client, message, reply_to_request, reply_with, request_of}
+use Rattle.rules.specs.ByRules.{control, from_client, message, reply_to_request, reply_with, request_of}
 use Rattle.rules.specs.FastPart.{begins_as_stun}
 use Rattle.rules.specs.Rules.{send_indication, channel_data, channel_data_from, send, send_from, to_peer}
 use Rattle.rules.specs.Systems.{reply_of_relaying}

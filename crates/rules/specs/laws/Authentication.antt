@@ -9,7 +9,7 @@ use Rattle.credentials.specs.Checks.{user_in}
 use Rattle.credentials.specs.TimeLimited.{Account}
 use Rattle.credentials.specs.declared.checking.AuthError.{AuthError}
 use Rattle.control.specs.Control.{all_understood, binding, decision, rows_of}
-use Rattle.control.specs.Responding.{key_for}
+use Rattle.control.specs.Responding.{check_of, key_for}
 use Rattle.control.specs.declared.config.Config.{Config}
 use Rattle.control.specs.declared.reply.Grant.TheVariants.{Mapped}
 use Rattle.control.specs.declared.request.Request.{Request}
@@ -18,7 +18,7 @@ use Rattle.control.specs.declared.request.TurnRequest.{TurnRequest}
 use Rattle.basics.specs.Fallible.{◌>>=◌, check}
 use Rattle.tables.specs.Rows.{Rows, rows_at}
 use Rattle.rules.specs.Authentication.{IsAuthenticated}
-use Rattle.rules.specs.ByRules.{check_of, control, from_client, message, reply_to_request, reply_with, request_of}
+use Rattle.rules.specs.ByRules.{control, from_client, message, reply_to_request, reply_with, request_of}
 use Rattle.rules.specs.FastPart.{begins_as_stun}
 use Rattle.rules.specs.Rules.{send_indication, send_from, channel_data_from}
 use Rattle.rules.specs.Systems.{SystemReply, reply_of_relaying}

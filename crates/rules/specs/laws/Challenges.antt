@@ -10,7 +10,7 @@ use Rattle.attributes.specs.Addresses.{address_in}
 use Rattle.attributes.specs.Values.{number_of_value}
 use Rattle.addresses.specs.declared.address.Addr.{Addr}
 use Rattle.credentials.specs.Checks.{first_value}
-use Rattle.control.specs.Control.{acceptable, all_understood, allocate_beside, attribute_test, channel_bind, create_permission, decision_for_user, decision_if_understood, family_for, family_number, is_repeated, own_allocation, peers_in, refresh_decision, refresh_for, requested_family, requested_lifetime, result_of_change, some_addresses}
+use Rattle.control.specs.Control.{acceptable, all_understood, allocate_beside, attribute_test, channel_bind, create_permission, decision_for_user, decision_if_understood, family_for, family_number, has_quota, is_repeated, owner_in, own_allocation, peers_in, refresh_decision, refresh_for, requested_family, requested_lifetime, result_of_change, some_addresses}
 use Rattle.control.specs.Values.{optional_value, required_value}
 use Rattle.control.specs.declared.allocate.TheConstants.{UDP}
 use Rattle.control.specs.declared.config.Config.{Config}
@@ -19,6 +19,7 @@ use Rattle.control.specs.declared.request.TurnRequest.TheVariants as turn
 use Rattle.basics.specs.Fallible.{◌>>=◌, check}
 use Rattle.tables.specs.Changes.{Change, allocation_change, bind_change, permit_change, refresh_change}
 use Rattle.tables.specs.Channels.{is_none_or}
+use Rattle.tables.specs.Counts.{allocations_of}
 use Rattle.tables.specs.LookUps.{allocation_of}
 use Rattle.tables.specs.Rows.{Rows}
 use Rattle.tables.specs.declared.allocation.Allocation.{Allocation}
@@ -97,7 +98,8 @@ module _ (config : Config) (client : Addr) (user : ℕ) (p : Parts) (rows : Rows
   allocate_gives : (o : Option Allocation) → GivesNoChallenge (allocate_beside config o client user p rows)
   allocate_gives None =
       then (acceptable config p) _ acceptable_gives (λ given.
-      then (result_of_change (allocation_change client user p.tx given.0 given.1 rows)) _ (changed _) (λ made. tt))
+      then (check (has_quota config.user_slots (allocations_of (owner_in p) rows)) InsufficientCapacity) _ (tested _ InsufficientCapacity tt) (λ _.
+      then (result_of_change (allocation_change client user (owner_in p) p.tx given.0 given.1 rows)) _ (changed _) (λ made. tt)))
   allocate_gives (Some a) = then (check (is_repeated a user p) AllocationMismatch) _ (tested (is_repeated a user p) AllocationMismatch tt) (λ _. tt)
 
   own_gives : GivesNoChallenge (own_allocation client user rows)

@@ -1,18 +1,17 @@
 -- Interface. The system by rules keeps users apart.
-use Rattle.std.specs.Prelude.{◌≡◌, ℕ, List, Bool, true, false, ◌==◌, is_some, Option, None, Some, Result, Ok, Err, option_map, string_bytes, refl, if◌then◌else◌}
+use Rattle.std.specs.Prelude.{◌≡◌, ℕ, List, Bool, true, false, ◌==◌, is_some, Option, None, Some, Result, Ok, Err, option_map, refl, if◌then◌else◌}
 use Rattle.std.specs.Option.{option_and_then}
 use Rattle.std.proofs.Common.{sym, ap, subst, ◌∙◌}
 use Rattle.stun.specs.Datagrams.{message_in}
 use Rattle.stun.specs.Messages.{Parts, parts_bytes}
 use Rattle.stun.specs.declared.registry.ErrorCode.{ErrorCode}
 use Rattle.addresses.specs.declared.address.Addr.{Addr}
-use Rattle.credentials.specs.Checks.{Directory, user_in, users_of}
-use Rattle.credentials.specs.Results.{check_result}
+use Rattle.credentials.specs.Checks.{user_in}
 use Rattle.credentials.specs.TimeLimited.{Account}
 use Rattle.credentials.specs.declared.checking.AuthError.{AuthError}
 use Rattle.control.specs.Control.{Decision, binding, decision, rows_after}
 use Rattle.control.specs.Replies.{reply_to}
-use Rattle.control.specs.Responding.{time_at, key_for}
+use Rattle.control.specs.Responding.{check_by, check_of, key_for}
 use Rattle.control.specs.declared.config.Config.{Config}
 use Rattle.control.specs.declared.reply.Grant.{Grant}
 use Rattle.control.specs.declared.request.Request.{Request}
@@ -27,9 +26,9 @@ use Rattle.events.specs.Events.{Sending, ToClient}
 use Rattle.events.specs.declared.meta.Source.{Source}
 use Rattle.events.specs.declared.meta.Source.TheVariants.{Client, Peer}
 use Rattle.basics.specs.Options.{◌>>=◌}
-use Rattle.rules.specs.ByRules.{by_rules, check_of, control, from_client, message, reply_to_request, reply_with, request_of}
+use Rattle.rules.specs.ByRules.{by_rules, control, from_client, message, reply_to_request, reply_with, request_of}
 use Rattle.rules.specs.FastPart.{begins_as_stun}
-use Rattle.rules.specs.Isolation.{ActsOnItsOwn, KeepsUsersApart, LookAlike, of_client, of_other, own_rows}
+use Rattle.rules.specs.Isolation.{ActsOnItsOwn, HaveSameCounts, KeepsUsersApart, LookAlike, of_client, of_other, own_rows}
 use Rattle.rules.specs.Rules.{channel_data, channel_data_from, peer_data, peer_data_to, send, send_from, send_indication, to_peer}
 use Rattle.rules.specs.Systems.{System, SystemReply, reply_of_relaying}
 use Rattle.rules.specs.laws.OwnChanges.{Both, IsGivenAlike, LeaveOwn, binding-alike, decision-alike}
@@ -44,7 +43,7 @@ same_after o q same f g each = of o refl ∙ ap (λ (q : Option _). q >>= g) sam
   of None is = refl
   of (Some x) is = each x is
 
-module _ (client : Addr) (a b : Rows) (are_a : AreWellFormed a) (are_b : AreWellFormed b) (alike : LookAlike (Client client) a b) where
+module _ {quota : Option ℕ} (client : Addr) (a b : Rows) (are_a : AreWellFormed a) (are_b : AreWellFormed b) (alike : LookAlike quota (Client client) a b) where
   pub held_alike : (x : Allocation) → allocation_of client a ≡ Some x → held_in a x.slot ≡ held_in b x.slot
   held_alike x is = let own = own_slot client a b are_a are_b alike x is in own.in_a ∙ sym own.in_b
 
@@ -63,7 +62,7 @@ peer_data-alike slot peer a b tx content same =
     ap (λ (o : Option Held). option_map (λ a. a.client) (option_map (λ held. held.allocation) o)
     >>= λ client. option_map (ToClient client) (peer_data (is_some (option_and_then (permission_of peer) o)) (option_and_then (bound_channel peer) o) peer tx content)) same
 
-pub peer_slot-alike : (slot : ℕ) (peer : Addr) (a b : Rows) → LookAlike (Peer slot peer) a b → held_in a slot ≡ held_in b slot
+pub peer_slot-alike : {quota : Option ℕ} (slot : ℕ) (peer : Addr) (a b : Rows) → LookAlike quota (Peer slot peer) a b → held_in a slot ≡ held_in b slot
 peer_slot-alike slot peer a b alike = let own = alike.own in cc
 
 -- ---- replies to a client's datagrams
@@ -75,7 +74,7 @@ pub record RepliesAlike (client : Addr) (now : ℕ) (before : Rows) (x y : Syste
   pub others : only (of_other client) (rows_at now x.rows) ≡ only (of_other client) (rows_at now before)
 
 module _ (config : Config) (now : ℕ) (client : Addr) (a b : Rows) (are_a : AreWellFormed a) (are_b : AreWellFormed b)
-    (alike : LookAlike (Client client) (rows_at now a) (rows_at now b)) where
+    (alike : LookAlike config.user_slots (Client client) (rows_at now a) (rows_at now b)) where
   abbrev live_a : Rows
   live_a = rows_at now a
 
@@ -115,15 +114,9 @@ module _ (config : Config) (now : ℕ) (client : Addr) (a b : Rows) (are_a : Are
       unchanged-alike _ _ (ap (λ (e : ErrorCode). Some (ToClient client (parts_bytes (reply_to config r client p key (Err e))))) given)
 
   -- the credentials are checked alike
-  abbrev directory_of : Option Allocation → Directory
-  directory_of o = record {
-    users = users_of config.users.items;
-    limits = option_map (λ secret. record { secret = secret.items; time = time_at config now; held = option_map (λ allocation. allocation.user) o }) config.secret;
-  }
-
   checked_alike : (p : Parts) → check_of config now client p a ≡ check_of config now client p b
   checked_alike p =
-      ap (λ (o : Option Allocation). check_result p (string_bytes config.realm) (directory_of o) config.nonce.bytes) (allocation_of-alike client live_a live_b alike)
+      ap (λ (o : Option Allocation). check_by config now (option_map (λ allocation. allocation.user) o) p) (allocation_of-alike client live_a live_b alike)
 
   request_alike : (p : Parts) (o : Option Request) → Alike (reply_to_request config now client p a o) (reply_to_request config now client p b o)
   request_alike p None = unchanged-alike None None refl
@@ -138,7 +131,7 @@ module _ (config : Config) (now : ℕ) (client : Addr) (a b : Rows) (are_a : Are
             (reply_with config (request.Turn r) client p a (decision r (user_in checked) config client p live_a, key_for checked))
             (reply_with config (request.Turn r) client p b (decision r (user_in checked) config client p live_b, key_for checked))
         of checked = decided_alike (request.Turn r) p (key_for checked) _ _
-            (decision-alike client live_a live_b (rows_at-well_formed now a are_a) (rows_at-well_formed now b are_b) alike r (user_in checked) config p)
+            (decision-alike config client live_a live_b (rows_at-well_formed now a are_a) (rows_at-well_formed now b are_b) alike r (user_in checked) p)
 
   kind_alike : (p : Parts) (sends : Bool) → Alike (if sends then reply_of_relaying a (send_from client live_a p) else control config now client p a)
       (if sends then reply_of_relaying b (send_from client live_b p) else control config now client p b)
@@ -159,18 +152,23 @@ module _ (config : Config) (now : ℕ) (client : Addr) (a b : Rows) (are_a : Are
 -- ---- the systems
 
 -- a table looks like itself
-pub looks_like_itself : (from : Source) (rows : Rows) → LookAlike from rows rows
-looks_like_itself from rows = record { moment = refl; count = refl; own = refl; next = refl }
+same_counts : (quota : Option ℕ) (from : Source) (rows : Rows) → HaveSameCounts quota from rows rows
+same_counts None from rows = tt
+same_counts (Some quota) (Client client) rows = λ owner. refl
+same_counts (Some quota) (Peer slot peer) rows = tt
+
+pub looks_like_itself : (quota : Option ℕ) (from : Source) (rows : Rows) → LookAlike quota from rows rows
+looks_like_itself quota from rows = record { moment = refl; count = refl; own = refl; next = refl; counts = same_counts quota from rows }
 
 -- a client's datagram, where replies over tables that look alike are alike
 pub acts_on_own : (system : System) (config : Config) (now : ℕ) (tx : List ℕ) (client : Addr) (bytes : List ℕ)
-    → ((a b : Rows) → AreWellFormed a → AreWellFormed b → LookAlike (Client client) (rows_at now a) (rows_at now b)
+    → ((a b : Rows) → AreWellFormed a → AreWellFormed b → LookAlike config.user_slots (Client client) (rows_at now a) (rows_at now b)
     → RepliesAlike client now a (system config now tx (Client client) a bytes) (system config now tx (Client client) b bytes))
     → ActsOnItsOwn system config now tx (Client client) bytes
 acts_on_own system config now tx client bytes each = record {
   answer = λ a b are_a are_b alike. (each a b are_a are_b alike).answer;
   own = λ a b are_a are_b alike. ap (λ (rows : Rows). rows.slots) (each a b are_a are_b alike).own;
-  others = λ rows are. ap (λ (rows : Rows). rows.slots) (sym (each rows rows are are (looks_like_itself (Client client) (rows_at now rows))).others);
+  others = λ rows are. ap (λ (rows : Rows). rows.slots) (sym (each rows rows are are (looks_like_itself config.user_slots (Client client) (rows_at now rows))).others);
 }
 
 -- the same answer over two tables, neither of which changes
@@ -181,13 +179,13 @@ pub record RepliesUnchanged (a b : Rows) (x y : SystemReply) : Type 0 where
 
 -- a peer's datagram, which changes nothing
 pub acts_unchanged : (system : System) (config : Config) (now : ℕ) (tx : List ℕ) (slot : ℕ) (peer : Addr) (bytes : List ℕ)
-    → ((a b : Rows) → LookAlike (Peer slot peer) (rows_at now a) (rows_at now b)
+    → ((a b : Rows) → LookAlike config.user_slots (Peer slot peer) (rows_at now a) (rows_at now b)
     → RepliesUnchanged a b (system config now tx (Peer slot peer) a bytes) (system config now tx (Peer slot peer) b bytes))
     → ActsOnItsOwn system config now tx (Peer slot peer) bytes
 acts_unchanged system config now tx slot peer bytes each = record {
   answer = λ a b are_a are_b alike. (each a b alike).answer;
   own = λ a b are_a are_b alike. ap own_at (each a b alike).kept_a ∙ alike.own ∙ sym (ap own_at (each a b alike).kept_b);
-  others = λ rows are. ap (λ (left : Rows). (rows_at now left).slots) (sym (each rows rows (looks_like_itself (Peer slot peer) (rows_at now rows))).kept_a);
+  others = λ rows are. ap (λ (left : Rows). (rows_at now left).slots) (sym (each rows rows (looks_like_itself config.user_slots (Peer slot peer) (rows_at now rows))).kept_a);
 } where
   own_at : Rows → List (Option Held)
   own_at rows = own_rows (Peer slot peer) (rows_at now rows)

@@ -1,13 +1,13 @@
 -- Interface. A request of a client is decided alike over two tables that look alike to the client, and its change leaves the same
 -- own rows; no row of another client changes.
-use Rattle.std.specs.Prelude.{◌≡◌, ℕ, ◌+◌, Bool, true, false, List, nat_le, nat_eq, Option, None, Some, is_none, Result, Ok, Err, ok_or, refl}
+use Rattle.std.specs.Prelude.{◌≡◌, ℕ, ◌+◌, Bool, true, false, List, nat_le, nat_lt, nat_eq, Option, None, Some, is_none, Result, Ok, Err, ok_or, refl}
 use Rattle.std.specs.FinMap.{len}
 use Rattle.std.specs.List.{list_all}
 use Rattle.std.proofs.Common.{sym, ap, subst, ◌∙◌}
 use Rattle.basics.specs.Fallible.{◌>>=◌, check}
 use Rattle.stun.specs.Messages.{Parts}
 use Rattle.stun.specs.declared.registry.ErrorCode.{ErrorCode}
-use Rattle.stun.specs.declared.registry.ErrorCode.TheVariants.{AllocationMismatch, BadRequest, PeerAddressFamilyMismatch, WrongCredentials}
+use Rattle.stun.specs.declared.registry.ErrorCode.TheVariants.{AllocationMismatch, BadRequest, InsufficientCapacity, PeerAddressFamilyMismatch, WrongCredentials}
 use Rattle.stun.specs.Ranges.{is_between}
 use Rattle.stun.specs.declared.registry.attribute.TheConstants.{CHANNEL_NUMBER, XOR_PEER_ADDRESS}
 use Rattle.addresses.specs.AddressOrder.{is_same_address}
@@ -19,7 +19,7 @@ use Rattle.addresses.specs.declared.address.Addr.{Addr}
 use Rattle.addresses.specs.declared.address.Family.{Family}
 use Rattle.credentials.specs.declared.checking.AuthError.{AuthError}
 use Rattle.credentials.specs.Checks.{first_value}
-use Rattle.control.specs.Control.{Decision, acceptable, allocate_anew, allocate_beside, attribute_test, binding, channel_bind, create_permission, decision, decision_for_user, family_number, is_repeated, own_allocation, requested_family, requested_lifetime, refresh_decision, error_of, refresh_for, result_of_change, user_or_error, peers_in}
+use Rattle.control.specs.Control.{Decision, acceptable, has_quota, owner_in, allocate_anew, allocate_beside, attribute_test, binding, channel_bind, create_permission, decision, decision_for_user, family_number, is_repeated, own_allocation, requested_family, requested_lifetime, refresh_decision, error_of, refresh_for, result_of_change, user_or_error, peers_in}
 use Rattle.control.specs.Values.{required_value}
 use Rattle.control.specs.declared.config.Config.{Config}
 use Rattle.control.specs.declared.reply.Grant.TheVariants.{Allocated}
@@ -27,6 +27,7 @@ use Rattle.control.specs.declared.request.TurnRequest.{TurnRequest}
 use Rattle.control.specs.declared.request.TurnRequest.TheVariants as turn
 use Rattle.events.specs.declared.meta.Source.TheVariants.{Client}
 use Rattle.tables.specs.Changes.{Change, allocation_change, bind_change, first_free, fresh, permission_end, permit_change, refresh_change, with_channel, with_held, with_peer}
+use Rattle.tables.specs.Counts.{allocations_of}
 use Rattle.tables.specs.Channels.{is_none_or, may_bind}
 use Rattle.tables.specs.Permissions.{with_all}
 use Rattle.tables.specs.LookUps.{allocation_of, held_in}
@@ -38,7 +39,7 @@ use Rattle.tables.specs.declared.held.Held.{Held}
 use Rattle.tables.specs.declared.permissions.TheConstants.{MAX_PERMISSIONS}
 use Rattle.tables.specs.declared.refusal.TableError.TheVariants.{Mismatch, Capacity, Conflict, NoAllocation}
 use Rattle.tables.specs.declared.refusal.TableError.TheVariants as refusal
-use Rattle.rules.specs.Isolation.{LookAlike, of_client, of_other}
+use Rattle.rules.specs.Isolation.{HaveSameCounts, LookAlike, of_client, of_other}
 use Rattle.rules.specs.laws.OwnRows.{HoldsOwn, allocation_of-alike, first_free-nothing, only, own_no_other, others-with_held, own-alike, own-with_held, own_slot}
 
 -- ---- results that are related
@@ -111,7 +112,7 @@ module _ (client : Addr) (m : ℕ) (xs ys : List (Option Held)) where
   abbrev Given : {A : Type 0} → A × Option Rows → A × Option Rows → Type 0
   Given x y = IsGivenAlike client a x y
 
-  module _ (are_a : AreWellFormed a) (are_b : AreWellFormed b) (alike : LookAlike (Client client) a b) where
+  module _ (config : Config) (are_a : AreWellFormed a) (are_b : AreWellFormed b) (alike : LookAlike config.user_slots (Client client) a b) where
     holds_other : (slot : ℕ) (held : Held) → of_other client (held_in a slot) ≡ None → is_same_address client held.allocation.client ≡ true
         → LeavesOwn client a (with_held a slot held) (with_held b slot held)
     holds_other slot held was same = record {
@@ -121,12 +122,12 @@ module _ (client : Addr) (m : ℕ) (xs ys : List (Option Held)) where
 
     -- ---- changes
 
-    allocation_alike : (user : ℕ) (tx : List ℕ) (family : Family) (lifetime : ℕ)
-        → Both Made (allocation_change client user tx family lifetime a) (allocation_change client user tx family lifetime b)
-    allocation_alike user tx family lifetime =
+    allocation_alike : (user : ℕ) (owner tx : List ℕ) (family : Family) (lifetime : ℕ)
+        → Both Made (allocation_change client user owner tx family lifetime a) (allocation_change client user owner tx family lifetime b)
+    allocation_alike user owner tx family lifetime =
         after_equal Made _ _ (ap (λ (o : Option Allocation). check (is_none o) Mismatch) (allocation_of-alike client a b alike)) _ _ (λ _ _.
         after_equal Made _ _ (ap (λ (o : Option ℕ). ok_or o Capacity) alike.next) _ _ (λ slot free.
-        let allocation : Allocation = record { slot = slot; client = client; family = family; user = user; tx = tx; lifetime = lifetime; end = m + lifetime } in
+        let allocation : Allocation = record { slot = slot; client = client; family = family; user = user; owner = owner; tx = tx; lifetime = lifetime; end = m + lifetime } in
         (refl, holds_other slot (fresh allocation) (ap (of_other client) (first_free-nothing a slot (some_ok (first_free a) Capacity slot free))) (is_same-itself client))))
 
     -- what follows from what a slot of the client's holds
@@ -158,15 +159,21 @@ module _ (client : Addr) (m : ℕ) (xs ys : List (Option Held)) where
 
     -- ---- decisions
 
-    anew_alike : (config : Config) (user : ℕ) (p : Parts) → Both Given (allocate_anew config client user p a) (allocate_anew config client user p b)
-    anew_alike config user p =
-        after_same Given (acceptable config p) _ _ (λ given _.
-        after_related Given Given _ _ (given_of_change client a _ _ (allocation_alike user p.tx given.0 given.1)) _ _ (λ x y made.
-        (ap (λ (slot : ℕ). Allocated given.0 slot given.1) made.0, made.1)))
+    quota_alike : (quota : Option ℕ) → HaveSameCounts quota (Client client) a b → (owner : List ℕ)
+        → has_quota quota (allocations_of owner a) ≡ has_quota quota (allocations_of owner b)
+    quota_alike None same owner = refl
+    quota_alike (Some quota) same owner = ap (λ (count : ℕ). nat_lt count quota) (same owner)
 
-    beside_alike : (config : Config) (user : ℕ) (p : Parts) (o : Option Allocation) → Both Given (allocate_beside config o client user p a) (allocate_beside config o client user p b)
-    beside_alike config user p None = anew_alike config user p
-    beside_alike config user p (Some own) = after_same Given (check (is_repeated own user p) AllocationMismatch) _ _ (λ _ _. (refl, tt))
+    anew_alike : (user : ℕ) (p : Parts) → Both Given (allocate_anew config client user p a) (allocate_anew config client user p b)
+    anew_alike user p =
+        after_same Given (acceptable config p) _ _ (λ given _.
+        after_equal Given _ _ (ap (λ (b : Bool). check b InsufficientCapacity) (quota_alike config.user_slots alike.counts (owner_in p))) _ _ (λ _ _.
+        after_related Given Given _ _ (given_of_change client a _ _ (allocation_alike user (owner_in p) p.tx given.0 given.1)) _ _ (λ x y made.
+        (ap (λ (slot : ℕ). Allocated given.0 slot given.1) made.0, made.1))))
+
+    beside_alike : (user : ℕ) (p : Parts) (o : Option Allocation) → Both Given (allocate_beside config o client user p a) (allocate_beside config o client user p b)
+    beside_alike user p None = anew_alike user p
+    beside_alike user p (Some own) = after_same Given (check (is_repeated own user p) AllocationMismatch) _ _ (λ _ _. (refl, tt))
 
     -- what follows from the client's allocation
     user_is : (own x : Allocation) (t : Bool) → (check {E = ErrorCode} t WrongCredentials >>= λ _. Ok own) ≡ Ok x → own ≡ x
@@ -204,31 +211,31 @@ module _ (client : Addr) (m : ℕ) (xs ys : List (Option Held)) where
         after_same Given (check (is_between FIRST_CHANNEL LAST_CHANNEL number) BadRequest) _ _ (λ _ _.
         after_related Given Given _ _ (given_of_change client a _ _ (bind_alike x.slot number peer own)) _ _ (λ x y made. (refl, made.1))))))
 
-    for_user : (r : TurnRequest) (config : Config) (user : ℕ) (p : Parts) → Both Given (decision_for_user r config client user p a) (decision_for_user r config client user p b)
-    for_user turn.Allocate config user p =
+    for_user : (r : TurnRequest) (user : ℕ) (p : Parts) → Both Given (decision_for_user r config client user p a) (decision_for_user r config client user p b)
+    for_user turn.Allocate user p =
         subst (λ (o : Option Allocation). Both Given (allocate_beside config (allocation_of client a) client user p a) (allocate_beside config o client user p b)) (allocation_of-alike client a b alike)
-        (beside_alike config user p (allocation_of client a))
-    for_user turn.Refresh config user p = refreshed_alike user p
-    for_user turn.CreatePermission config user p = permitted_alike user p
-    for_user turn.ChannelBind config user p = bound_alike user p
+        (beside_alike user p (allocation_of client a))
+    for_user turn.Refresh user p = refreshed_alike user p
+    for_user turn.CreatePermission user p = permitted_alike user p
+    for_user turn.ChannelBind user p = bound_alike user p
 
-    decided : (r : TurnRequest) (checked : Result ℕ AuthError) (config : Config) (p : Parts) → Both Given (decision r checked config client p a) (decision r checked config client p b)
-    decided r checked config p =
+    decided : (r : TurnRequest) (checked : Result ℕ AuthError) (p : Parts) → Both Given (decision r checked config client p a) (decision r checked config client p b)
+    decided r checked p =
         after_same Given (user_or_error checked) _ _ (λ user _.
         after_same Given (attribute_test p) _ _ (λ _ _.
-        for_user r config user p))
+        for_user r user p))
 
 -- a request of TURN is decided alike
-pub decision-alike : (client : Addr) (a b : Rows) → AreWellFormed a → AreWellFormed b → LookAlike (Client client) a b
-    → (r : TurnRequest) (checked : Result ℕ AuthError) (config : Config) (p : Parts)
+pub decision-alike : (config : Config) (client : Addr) (a b : Rows) → AreWellFormed a → AreWellFormed b → LookAlike config.user_slots (Client client) a b
+    → (r : TurnRequest) (checked : Result ℕ AuthError) (p : Parts)
     → Both (IsGivenAlike client a) (decision r checked config client p a) (decision r checked config client p b)
-decision-alike client a b are_a are_b alike r checked config p = of b.moment alike.moment are_b alike where
-  of : (n : ℕ) → a.moment ≡ n → AreWellFormed (record { moment = n; slots = b.slots }) → LookAlike (Client client) a (record { moment = n; slots = b.slots })
+decision-alike config client a b are_a are_b alike r checked p = of b.moment alike.moment are_b alike where
+  of : (n : ℕ) → a.moment ≡ n → AreWellFormed (record { moment = n; slots = b.slots }) → LookAlike config.user_slots (Client client) a (record { moment = n; slots = b.slots })
       → Both (IsGivenAlike client a) (decision r checked config client p a) (decision r checked config client p (record { moment = n; slots = b.slots }))
   of n is =
-      subst (λ (n : ℕ). AreWellFormed (record { moment = n; slots = b.slots }) → LookAlike (Client client) a (record { moment = n; slots = b.slots })
+      subst (λ (n : ℕ). AreWellFormed (record { moment = n; slots = b.slots }) → LookAlike config.user_slots (Client client) a (record { moment = n; slots = b.slots })
       → Both (IsGivenAlike client a) (decision r checked config client p a) (decision r checked config client p (record { moment = n; slots = b.slots })))
-      is (λ are alike. decided client a.moment a.slots b.slots are_a are alike r checked config p)
+      is (λ are alike. decided client a.moment a.slots b.slots config are_a are alike r checked p)
 
 -- one of Binding changes nothing
 pub binding-alike : (client : Addr) (before : Rows) (p : Parts) → Both (IsGivenAlike client before) (binding p) (binding p)

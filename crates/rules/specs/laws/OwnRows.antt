@@ -167,14 +167,14 @@ pub record HoldsOwn (client : Addr) (slot : ℕ) (a b : Rows) : Type 0 where
   pub in_b : held_in b slot ≡ Some held
 
 module _ (client : Addr) (a b : Rows) where
-  pub held_by-alike : LookAlike (Client client) a b → held_by client a ≡ held_by client b
+  pub held_by-alike : {quota : Option ℕ} → LookAlike quota (Client client) a b → held_by client a ≡ held_by client b
   held_by-alike alike = sym (found_own client a.slots) ∙ ap (found client) alike.own ∙ found_own client b.slots
 
-  pub allocation_of-alike : LookAlike (Client client) a b → allocation_of client a ≡ allocation_of client b
+  pub allocation_of-alike : {quota : Option ℕ} → LookAlike quota (Client client) a b → allocation_of client a ≡ allocation_of client b
   allocation_of-alike alike = ap (option_map (λ held. held.allocation)) (held_by-alike alike)
 
   -- at the slot of the client's allocation
-  pub own_slot : AreWellFormed a → AreWellFormed b → LookAlike (Client client) a b → (own : Allocation) → allocation_of client a ≡ Some own → HoldsOwn client own.slot a b
+  pub own_slot : {quota : Option ℕ} → AreWellFormed a → AreWellFormed b → LookAlike quota (Client client) a b → (own : Allocation) → allocation_of client a ≡ Some own → HoldsOwn client own.slot a b
   own_slot are_a are_b alike own = of (held_by client a) refl where
     of : (o : Option Held) → held_by client a ≡ o → option_map (λ held. held.allocation) o ≡ Some own → HoldsOwn client own.slot a b
     of None is there = absurd (none-some own there)
@@ -188,5 +188,5 @@ module _ (client : Addr) (a b : Rows) where
         }
 
   -- the client's own rows, as tables
-  pub own-alike : LookAlike (Client client) a b → only (of_client client) a ≡ only (of_client client) b
+  pub own-alike : {quota : Option ℕ} → LookAlike quota (Client client) a b → only (of_client client) a ≡ only (of_client client) b
   own-alike alike = λ i. record { moment = alike.moment i; slots = alike.own i }

@@ -27,7 +27,7 @@ use Rattle.tables.specs.Permissions.{PermissionMap, with_all}
 use Rattle.tables.specs.laws.Retained.{get-kept_of, kept_from, len-kept_of}
 use Rattle.tables.specs.laws.Row.{is_live_binding, live_held, held_at-live, held_at-ended, held_in-live}
 use Rattle.tables.specs.Rows.{Rows, held_at, live_rows, rows_at, no_rows}
-use Rattle.tables.specs.Users.{with_user, held_of_users, rows_of_users}
+use Rattle.tables.specs.Users.{with_user, held_of_user, rows_for}
 use Rattle.tables.specs.WellFormed.{IsChannel, IsHeldAt, AreWellFormed}
 use Rattle.tables.specs.declared.allocation.Allocation.{Allocation}
 use Rattle.tables.specs.declared.channels.Binding.{Binding}
@@ -186,12 +186,12 @@ some_ok : {A : Type 0} (option : Option A) (refused : TableError) (x : A) → ok
 some_ok None refused x e = cc
 some_ok (Some y) refused x e = cc
 
-pub allocate-well_formed : (client : Addr) (user : ℕ) (tx : List ℕ) (family : Family) (lifetime : ℕ) (rows : Rows) → AreWellFormed rows → IsIpv4Address client
-    → IfOk (allocation_change client user tx family lifetime rows) (λ made. AreWellFormed made.1)
-allocate-well_formed client user tx family lifetime rows are address =
+pub allocate-well_formed : (client : Addr) (user : ℕ) (owner tx : List ℕ) (family : Family) (lifetime : ℕ) (rows : Rows) → AreWellFormed rows → IsIpv4Address client
+    → IfOk (allocation_change client user owner tx family lifetime rows) (λ made. AreWellFormed made.1)
+allocate-well_formed client user owner tx family lifetime rows are address =
     checked (λ made. AreWellFormed made.1) (is_none (allocation_of client rows)) Mismatch _ (λ _.
     on_ok (λ made. AreWellFormed made.1) (ok_or (first_free rows) Capacity) _ (λ slot free.
-    let allocation : Allocation = record { slot = slot; client = client; family = family; user = user; tx = tx; lifetime = lifetime; end = rows.moment + lifetime } in
+    let allocation : Allocation = record { slot = slot; client = client; family = family; user = user; owner = owner; tx = tx; lifetime = lifetime; end = rows.moment + lifetime } in
     with_held-well_formed slot (fresh allocation) rows are (fresh-held_at slot allocation refl address)))
 
 pub refresh-well_formed : (slot lifetime : ℕ) (rows : Rows) → AreWellFormed rows → IfOk (refresh_change slot lifetime rows) (λ made. AreWellFormed made.1)
@@ -239,22 +239,22 @@ mapped-held_at : (slot : ℕ) (held left : Held) (user : Option ℕ) → option_
 mapped-held_at slot held left None there is = absurd (none-some left there)
 mapped-held_at slot held left (Some user) there is = subst (IsHeldAt slot) (same_Some _ _ there) (with_user-held_at slot user held is)
 
-module _ (index : ℕ → Option ℕ) where
-  replaced_from : (slot : ℕ) (o : Option Held) (left : Held) → option_and_then (held_of_users index) o ≡ Some left → ((held : Held) → o ≡ Some held → IsHeldAt slot held) → IsHeldAt slot left
+module _ (user : Allocation → Option ℕ) where
+  replaced_from : (slot : ℕ) (o : Option Held) (left : Held) → option_and_then (held_of_user user) o ≡ Some left → ((held : Held) → o ≡ Some held → IsHeldAt slot held) → IsHeldAt slot left
   replaced_from slot None left there each = absurd (none-some left there)
-  replaced_from slot (Some held) left there each = mapped-held_at slot held left (index held.allocation.user) there (each held refl)
+  replaced_from slot (Some held) left there each = mapped-held_at slot held left (user held.allocation) there (each held refl)
 
-  flat_replaced : (slot : Option (Option Held)) → option_flatten (option_map (option_and_then (held_of_users index)) slot) ≡ option_and_then (held_of_users index) (option_flatten slot)
+  flat_replaced : (slot : Option (Option Held)) → option_flatten (option_map (option_and_then (held_of_user user)) slot) ≡ option_and_then (held_of_user user) (option_flatten slot)
   flat_replaced None = refl
   flat_replaced (Some None) = refl
   flat_replaced (Some (Some held)) = refl
 
-  pub users-well_formed : (rows : Rows) → AreWellFormed rows → AreWellFormed (rows_of_users index rows)
+  pub users-well_formed : (rows : Rows) → AreWellFormed rows → AreWellFormed (rows_for user rows)
   users-well_formed rows are = record {
     latest = are.latest;
-    few = omega (arith, are.few, length-map rows.slots (option_and_then (held_of_users index)));
+    few = omega (arith, are.few, length-map rows.slots (option_and_then (held_of_user user)));
     held = λ slot left there.
-        let replaced = ap option_flatten (slice_get-map (option_and_then (held_of_users index)) rows.slots slot) ∙ flat_replaced (slice_get rows.slots slot) in
+        let replaced = ap option_flatten (slice_get-map (option_and_then (held_of_user user)) rows.slots slot) ∙ flat_replaced (slice_get rows.slots slot) in
         replaced_from slot (held_in rows slot) left (sym replaced ∙ there) (are.held slot);
   }
 

@@ -25,7 +25,7 @@ handled : (g : _) (c : goal.After-reply_of g) → from_client c.args.config.now 
     ≡ record { answer = reply_sent c.args.client (take (count_of c.respond.result) c.respond.new.out); rows = c.respond.new.tables }
 handled g c =
     is_handled c.args.config.now c.args.moment c.args.client c.args.tables.now c.args.datagram.now c.in-Ok.message (stun g c) (is_message g c) (other g c)
-    ∙ control_is c.law_results_are_checked.ensures _ _ _ _ _ _ _ _ c.requires.ipv4 c.respond.ensures.responds
+    ∙ control_is _ _ _ _ _ _ _ _ c.requires.ipv4 c.respond.ensures.responds
 
 pub returns-clause-answer : goal.returns-clause-answer
 returns-clause-answer g c =
@@ -38,5 +38,5 @@ returns-clause-rows g c = sym (ap (λ (r : SystemReply). r.rows) (handled g c))
 pub returns-clause-disposition : goal.returns-clause-disposition
 returns-clause-disposition g c =
     c.reply_of.ensures.disposition
-    ∙ response_is c.law_results_are_checked.ensures _ _ _ _ _ _ _ _ c.requires.ipv4 c.respond.ensures.responds
+    ∙ response_is _ _ _ _ _ _ _ _ c.requires.ipv4 c.respond.ensures.responds
     ∙ sym (disposition_is_handled c.args.config.now c.args.moment c.args.client c.args.tables.now c.args.datagram.now c.in-Ok.message (stun g c) (is_message g c) (other g c))

@@ -1,7 +1,9 @@
-use Rattle.std.proofs.Common.{◌≡◌, length, map, ap, ◌∙◌, true, is_some, rules}
+use Rattle.std.proofs.Common.{◌≡◌, ◌≤◌, length, map, ap, ◌∙◌, true, is_some, rules}
 use Rattle.std.proofs.lemmas.List.{length-map}
 use Rattle.tables.specs.Rows.{Rows}
 use Rattle.control.specs.Configs.{are_users}
+use Rattle.control.specs.declared.config.TheConstants.{MAX_USERS}
+use Rattle.control.specs.laws.Config.{within_limits}
 use Rattle.control.specs.Users.{index_of_user, new_index}
 use Rattle.tables.specs.Users.{rows_of_users, index_in}
 use Rattle.relay.specs.Relays.{RelayContents}
@@ -9,6 +11,11 @@ use Rattle.relay.specs.Users.{after_users}
 use Rattle.relay.proofs.NewUsers.{same_rows}
 use Rattle.relay.proofs.ValidUsers.{valid_with_users}
 use Rattle.relay.proofs.relay.Relay.set_users.Goals as goal
+
+pub new_indices-indices-requires : goal.new_indices-indices-requires
+new_indices-indices-requires c =
+    let few : length c.self.inside.config.users.items ≤ MAX_USERS = (within_limits c.self.inside.config c.self.invariant.valid).users.1 in
+    search (rules, few)
 
 pub returns-clause-ok : goal.returns-clause-ok
 returns-clause-ok c =

@@ -15,8 +15,8 @@ loop-slot-preserved c =
     let within : slot < length rows.slots = omega (arith, long, c.loop-slot-test.true, c.len-slot-end.ensures, c.self.inside.slots.ok.0) in
     let held : is_some (held_in rows slot) ≡ c.is_some.result = ap is_some (sym c.live.ensures.live) ∙ sym c.is_some.ensures in
     elim c.if-is_some.branch [
-      | then-is_some w ↦ w.count-is ∙ counted_one rows slot c.loop-slot.count within c.loop-slot.invariant (held ∙ w.if-is_some.true)
-      | else-is_some w ↦ w.count-is ∙ counted_none rows slot c.loop-slot.count within c.loop-slot.invariant (held ∙ w.if-is_some.false)
+      | then-is_some w ↦ w.count-is ∙ counted_one is_some rows slot c.loop-slot.count c.loop-slot.invariant within (held ∙ w.if-is_some.true)
+      | else-is_some w ↦ w.count-is ∙ counted_none is_some rows slot c.loop-slot.count c.loop-slot.invariant within (held ∙ w.if-is_some.false)
     ]
 
 pub returns : goal.returns
@@ -26,4 +26,4 @@ returns c =
     let rows = live_rows t c.args.self.now in
     let long = length-stored c.self.inside.moment c.self.inside.slots.items c.args.self.now c.self.view_is t c.moment_at-moment.ensures.later in
     let all : length rows.slots ≤ slot = omega (arith, long, c.loop-slot-test.false, c.len-slot-end.ensures, c.self.inside.slots.ok.0) in
-    counted_all rows slot c.loop-slot.count all c.loop-slot.invariant ∙ ap (λ m. allocation_count (live_rows m c.args.self.now)) c.moment_at-moment.ensures.moment
+    counted_all is_some rows slot c.loop-slot.count c.loop-slot.invariant all ∙ ap (λ m. allocation_count (live_rows m c.args.self.now)) c.moment_at-moment.ensures.moment
