@@ -1,5 +1,5 @@
 -- The second pass over the lines of a text, line by line.
-use Rattle.std.proofs.Common.{◌≡◌, refl, ℕ, ◌≤◌, ◌+◌, Bool, true, false, List, [], ◌∷◌, ◌++◌, Option, Some, None, Err, cond, sym, ap, ◌∙◌, arith, subst, Bor, pos, ◌-ℤ◌, FitsSigned, Fits, w16, w64, to_z, of_z}
+use Rattle.std.proofs.Common.{◌≡◌, refl, ℕ, ◌≤◌, ◌+◌, Bool, true, false, List, [], ◌∷◌, ◌++◌, length, Option, Some, None, Err, cond, sym, ap, ◌∙◌, arith, subst, Bor, pos, ◌-ℤ◌, FitsSigned, Fits, w16, w64, to_z, of_z}
 use Rattle.std.specs.Prelude.{option_map, option_and_then, bytes_eq, is_some}
 use Rattle.std.specs.List.{AllZip, AllByRecursion}
 use Rattle.std.proofs.lemmas.List.{append_assoc, append-nil}
@@ -11,10 +11,11 @@ use Rattle.insn.specs.declared.decoding.TheConstants.{MAX_SLOTS}
 use Rattle.insn.specs.declared.instruction.Insn.{Insn}
 use Rattle.asm.specs.Lines.{lines_of}
 use Rattle.asm.specs.Statements.{Name, Statement, Labelled, Instruction}
-use Rattle.asm.specs.Programs.{IsInRange, slots_in, slot_from, slot_of_label, linked_one, instructions_of, LacksLabel}
+use Rattle.asm.specs.Programs.{IsInRange, slots_in, slot_from, slot_of_label, linked_one, instructions_of, insn_lines, LacksLabel}
 use Rattle.asm.specs.Reading.{line_statement}
 use Rattle.asm.specs.Parsing.{said_in, IsUnfit, UnderstandsLine}
 use Rattle.asm.specs.Scanning.{Holds, IsTableOf, IsHalted, IsLinked, slots_up_to_limit, following_lines, TextBegins, Fails}
+use Rattle.asm.specs.declared.program.InsnLine.{InsnLine}
 use Rattle.asm.specs.declared.statement.Line.{Line}
 use Rattle.asm.specs.declared.statement.Line.TheVariants as line
 use Rattle.asm.specs.declared.refusal.LineError.{LineError}
@@ -97,6 +98,21 @@ linked_more label_slots slot (Some (Instruction i t) ∷ before) s code more is 
     by (Some j) (Some tail) at e following = let first : j ∷ tail ≡ code = cc in
         ap (option_map (λ c. j ∷ c)) (following tail at) ∙ ap (λ c. Some (c ++ more)) first
 
+-- the lines of one line more
+numbered_more : (slot line : ℕ) (before : List (Option Statement)) (s : Option Statement)
+    → insn_lines slot line (before ++ s ∷ [])
+    ≡ insn_lines slot line before ++ insn_lines (slot + slots_in before) (line + length before) (s ∷ [])
+numbered_more slot line [] s = ap (λ k. insn_lines k line (s ∷ [])) (omega arith) ∙ ap (λ n. insn_lines (slot + 0) n (s ∷ [])) (omega arith)
+numbered_more slot line (None ∷ before) s = numbered_more slot (line + 1) before s
+    ∙ ap (λ n. insn_lines slot (line + 1) before ++ insn_lines (slot + slots_in before) n (s ∷ [])) (omega arith)
+numbered_more slot line (Some (Labelled n) ∷ before) s = numbered_more slot (line + 1) before s
+    ∙ ap (λ n. insn_lines slot (line + 1) before ++ insn_lines (slot + slots_in before) n (s ∷ [])) (omega arith)
+numbered_more slot line (Some (Instruction i t) ∷ before) s = ap (λ lines. record { slot = slot; line = line } ∷ lines)
+    (numbered_more (slot + slots_of i) (line + 1) before s
+    ∙ ap (λ k. insn_lines (slot + slots_of i) (line + 1) before ++ insn_lines k (line + 1 + length before) (s ∷ [])) (omega arith)
+    ∙ ap (λ n. insn_lines (slot + slots_of i) (line + 1) before ++ insn_lines (slot + (slots_of i + slots_in before)) n (s ∷ []))
+    (omega arith))
+
 slots_both : (before after : List (Option Statement)) → slots_in (before ++ after) ≡ slots_in before + slots_in after
 slots_both [] after = omega arith
 slots_both (None ∷ before) after = slots_both before after
@@ -107,7 +123,7 @@ slots_both (Some (Instruction i t) ∷ before) after = omega (arith, slots_both 
 
 -- before the first line there is no code
 pub linked_none : (text : List ℕ) (table : Table) → IsTableOf text table
-    → IsLinked (lines_of text) table 0 0 (lines_of text) []
+    → IsLinked (lines_of text) table 0 0 (lines_of text) [] []
 linked_none text table t = record {
   said = t.said;
   read = t.read;
@@ -121,28 +137,33 @@ linked_none text table t = record {
   count = refl;
   slots = refl;
   linked = refl;
+  are = refl;
 }
 
 pub slot_within : (lines : List (List ℕ)) (table : Table) (n slot : ℕ) (rest : List (List ℕ)) (code : List Insn)
-    → IsLinked lines table n slot rest code
+    (numbered : List InsnLine) → IsLinked lines table n slot rest code numbered
     → slot ≤ MAX_SLOTS
-slot_within lines table n slot rest code k = omega
+slot_within lines table n slot rest code numbered k = omega
     (arith, k.few, k.slots, ap slots_in k.split, slots_both k.before k.after)
 
 -- the code after one line more
 linked_after : (lines : List (List ℕ)) (table : Table) (n slot : ℕ) (left : Option (Bor (List ℕ)))
     (text : Bor (List ℕ)) (s : Option Statement)
-    (rest : List (List ℕ)) (code more : List Insn) (k : IsLinked lines table n slot (following_lines left) code)
+    (rest : List (List ℕ)) (code more : List Insn) (numbered : List InsnLine)
+    (k : IsLinked lines table n slot (following_lines left) code numbered)
     → left ≡ Some text → TextBegins text.now s rest
     → instructions_of (slot_of_label k.said) slot (s ∷ []) ≡ Some more
     → IsLinked lines table (n + 1) (slot + slots_in (s ∷ [])) rest (code ++ more)
-linked_after lines table n slot left text s rest code more k is first here =
+    (numbered ++ insn_lines slot (n + 1) (s ∷ []))
+linked_after lines table n slot left text s rest code more numbered k is first here =
     by k.after k.split (subst (λ ls. AllZip (λ line t. line_statement line ≡ Some t) ls k.after)
     (ap following_lines is ∙ first.split) k.ahead) k.fit
   where
     by : (after : List (Option Statement)) → k.said ≡ k.before ++ after
         → AllZip (λ line t. line_statement line ≡ Some t) (first.line ∷ rest) after
-        → AllByRecursion IsInRange after → IsLinked lines table (n + 1) (slot + slots_in (s ∷ [])) rest (code ++ more)
+        → AllByRecursion IsInRange after
+        → IsLinked lines table (n + 1) (slot + slots_in (s ∷ [])) rest (code ++ more)
+        (numbered ++ insn_lines slot (n + 1) (s ∷ []))
     by [] split ahead fit = absurd ahead
     by (t ∷ after) split ahead fit = let says : Some t ≡ Some s = sym ahead.0 ∙ first.read in let same : t ≡ s = cc in
         record {
@@ -159,13 +180,17 @@ linked_after lines table n slot left text s rest code more k is first here =
           slots = omega (arith, k.slots, slots_more k.before s);
           linked = linked_more (slot_of_label k.said) 0 k.before s code more k.linked
               (ap (λ p. instructions_of (slot_of_label k.said) p (s ∷ [])) (omega (arith, k.slots)) ∙ here);
+          are = ap (λ l. l ++ insn_lines slot (n + 1) (s ∷ [])) k.are
+              ∙ ap (λ p. insn_lines 0 1 k.before ++ insn_lines p (n + 1) (s ∷ [])) (omega (arith, k.slots))
+              ∙ ap (λ m. insn_lines 0 1 k.before ++ insn_lines (0 + slots_in k.before) m (s ∷ [])) (omega (arith, k.count))
+              ∙ sym (numbered_more 0 1 k.before s);
         }
 
 -- no line has a fault
 pub no_fault : (lines : List (List ℕ)) (table : Table) (n slot : ℕ) (left : Option (Bor (List ℕ)))
-    (text : Bor (List ℕ)) (code : List Insn) (m : ℕ) (e : AsmError)
-    → IsLinked lines table n slot (following_lines left) code → left ≡ Some text → Fails text.now m e → ⊥
-no_fault lines table n slot left text code m e k is first =
+    (text : Bor (List ℕ)) (code : List Insn) (numbered : List InsnLine) (m : ℕ) (e : AsmError)
+    → IsLinked lines table n slot (following_lines left) code numbered → left ≡ Some text → Fails text.now m e → ⊥
+no_fault lines table n slot left text code numbered m e k is first =
     by k.after (subst (λ ls. AllZip (λ line t. line_statement line ≡ Some t) ls k.after)
     (ap following_lines is ∙ first.split) k.ahead) k.fit first.fault first.fails
   where
@@ -180,46 +205,53 @@ no_fault lines table n slot left text code m e k is first =
 -- a line that is no instruction adds no code
 pub linked_past : (lines : List (List ℕ)) (table : Table) (n slot : ℕ) (left : Option (Bor (List ℕ)))
     (text : Bor (List ℕ)) (l : Line)
-    (rest : List (List ℕ)) (code : List Insn) → IsLinked lines table n slot (following_lines left) code → left ≡ Some text
+    (rest : List (List ℕ)) (code : List Insn) (numbered : List InsnLine)
+    → IsLinked lines table n slot (following_lines left) code numbered → left ≡ Some text
     → TextBegins text.now (said_in l) rest
     → ((i : Insn) (label : Option (Bor (List ℕ))) → l ≡ line.Insn i label → ⊥)
-    → IsLinked lines table (n + 1) slot rest code
-linked_past lines table n slot left text l rest code k is first other = by l first other
+    → IsLinked lines table (n + 1) slot rest code numbered
+linked_past lines table n slot left text l rest code numbered k is first other = by l first other
   where
     none : (s : Option Statement) → slots_in (s ∷ []) ≡ 0 → instructions_of (slot_of_label k.said) slot (s ∷ []) ≡ Some []
+        → insn_lines slot (n + 1) (s ∷ []) ≡ []
         → TextBegins text.now s rest
-        → IsLinked lines table (n + 1) slot rest code
-    none s nowhere nothing first = subst (λ c. IsLinked lines table (n + 1) slot rest c) (append-nil code)
-        (subst (λ p. IsLinked lines table (n + 1) p rest (code ++ [])) (omega (arith, nowhere))
-        (linked_after lines table n slot left text s rest code [] k is first nothing))
+        → IsLinked lines table (n + 1) slot rest code numbered
+    none s nowhere nothing unnumbered first = subst (λ c. IsLinked lines table (n + 1) slot rest c numbered) (append-nil code)
+        (subst (λ m. IsLinked lines table (n + 1) slot rest (code ++ []) m)
+        (ap (λ m. numbered ++ m) unnumbered ∙ append-nil numbered)
+        (subst (λ p. IsLinked lines table (n + 1) p rest (code ++ []) (numbered ++ insn_lines slot (n + 1) (s ∷ [])))
+        (omega (arith, nowhere))
+        (linked_after lines table n slot left text s rest code [] numbered k is first nothing)))
 
     by : (l : Line) → TextBegins text.now (said_in l) rest
         → ((i : Insn) (label : Option (Bor (List ℕ))) → l ≡ line.Insn i label → ⊥)
-        → IsLinked lines table (n + 1) slot rest code
-    by line.Empty first other = none None refl refl first
-    by (line.Label name) first other = none (Some (Labelled name.now)) refl refl first
+        → IsLinked lines table (n + 1) slot rest code numbered
+    by line.Empty first other = none None refl refl refl first
+    by (line.Label name) first other = none (Some (Labelled name.now)) refl refl refl first
     by (line.Insn i label) first other = absurd (other i label refl)
 
 -- an instruction adds itself with the distance to its label
 pub linked_insn : (lines : List (List ℕ)) (table : Table) (n slot : ℕ) (left : Option (Bor (List ℕ)))
     (text : Bor (List ℕ)) (i : Insn) (target : Option Name)
-    (rest : List (List ℕ)) (code : List Insn) (j : Insn) (k : IsLinked lines table n slot (following_lines left) code)
+    (rest : List (List ℕ)) (code : List Insn) (j : Insn) (numbered : List InsnLine)
+    (k : IsLinked lines table n slot (following_lines left) code numbered)
     → left ≡ Some text
     → TextBegins text.now (Some (Instruction i target)) rest → Some j ≡ linked_one (slot_of_label k.said) slot i target
-    → IsLinked lines table (n + 1) (slot + slots_of i) rest (code ++ j ∷ [])
-linked_insn lines table n slot left text i target rest code j k is first one = subst
-    (λ p. IsLinked lines table (n + 1) p rest (code ++ j ∷ [])) (omega arith)
-    (linked_after lines table n slot left text (Some (Instruction i target)) rest code (j ∷ []) k is first
+    → IsLinked lines table (n + 1) (slot + slots_of i) rest (code ++ j ∷ []) (numbered ++ record { slot = slot; line = n + 1 } ∷ [])
+linked_insn lines table n slot left text i target rest code j numbered k is first one = subst
+    (λ p. IsLinked lines table (n + 1) p rest (code ++ j ∷ []) (numbered ++ record { slot = slot; line = n + 1 } ∷ [])) (omega arith)
+    (linked_after lines table n slot left text (Some (Instruction i target)) rest code (j ∷ []) numbered k is first
     (ap (λ o. option_and_then (λ h. option_map (λ c. h ∷ c) (Some [])) o) (sym one)))
 
 -- an unknown label halts the pass
 pub unknown_label : (lines : List (List ℕ)) (table : Table) (n slot : ℕ) (left : Option (Bor (List ℕ)))
     (text : Bor (List ℕ)) (i : Insn) (target : Option Name)
-    (rest : List (List ℕ)) (code : List Insn) (k : IsLinked lines table n slot (following_lines left) code)
+    (rest : List (List ℕ)) (code : List Insn) (numbered : List InsnLine)
+    (k : IsLinked lines table n slot (following_lines left) code numbered)
     → left ≡ Some text
     → TextBegins text.now (Some (Instruction i target)) rest → None ≡ linked_one (slot_of_label k.said) slot i target
     → IsHalted lines (error.UnknownLabel (n + 1))
-unknown_label lines table n slot left text i target rest code k is first none = by target first.read none
+unknown_label lines table n slot left text i target rest code numbered k is first none = by target first.read none
   where
     lacks : (name : Name) → slot_of_label k.said name ≡ None → (after : List (Option Statement)) → k.said ≡ k.before ++ after
         → AllZip (λ line t. line_statement line ≡ Some t) (first.line ∷ rest) after

@@ -7,10 +7,11 @@ use Rattle.insn.specs.declared.decoding.TheConstants.{MAX_SLOTS}
 use Rattle.insn.specs.declared.instruction.Insn.{Insn}
 use Rattle.asm.specs.Lines.{lines_of}
 use Rattle.asm.specs.Statements.{Statement, Labelled, Instruction}
-use Rattle.asm.specs.Programs.{Means, AreRead, slot_of_label, instructions_of, Names, IsAssembled, StopsAt, IsNoLine, IsOutOfRange, IsRepeated, IsRefusedText}
+use Rattle.asm.specs.Programs.{Means, AreRead, slot_of_label, instructions_of, Names, AreInsnLines, IsAssembled, StopsAt, IsNoLine, IsOutOfRange, IsRepeated, IsRefusedText}
 use Rattle.asm.specs.Reading.{line_statement}
 use Rattle.asm.specs.Parsing.{IsUnfit}
-use Rattle.asm.specs.Scanning.{AreUnderstood, Halts, IsUnread, IsTooLarge, IsOldLabel, IsHalted, IsCodeOf, IsBuilt}
+use Rattle.asm.specs.Scanning.{AreUnderstood, Halts, IsUnread, IsTooLarge, IsOldLabel, IsHalted, IsCodeOf, AreLinesOf, IsBuilt}
+use Rattle.asm.specs.declared.program.InsnLine.{InsnLine}
 use Rattle.asm.specs.declared.refusal.AsmError.{AsmError}
 use Rattle.asm.specs.declared.refusal.AsmError.TheVariants as error
 use Rattle.asm.proofs.Refusals.{said_is_one, slots_of_code, halts_once, halts_or_code}
@@ -173,7 +174,7 @@ names_once laws text code other a b =
     (is_understood laws (lines_of text) b.said b.read).each in
     let both : Some code ≡ Some other = sym a.linked ∙ ap (λ said. instructions_of (slot_of_label said) 0 said) same ∙ b.linked in cc
 
--- ---- the clauses of `assemble`, by those of `build`
+-- ---- the clauses of `assemble_with_lines`, by those of `build`
 
 pub found : {V : Type 0} → ReaderLaws → (text : List ℕ) (items : V → List ℕ) (r : Result V AsmError)
     → IfOk r (λ v. IsBuilt text (items v))
@@ -185,6 +186,11 @@ found laws text items (Ok v) b = record {
   spelled = b.spelled;
 }
 found laws text items (Err e) b = tt
+
+pub lines_found : {V : Type 0} → ReaderLaws → (text : List ℕ) (items : V → List InsnLine) (r : Result V AsmError)
+    → IfOk r (λ v. AreLinesOf text (items v)) → IfOk r (λ v. AreInsnLines text (items v))
+lines_found laws text items (Ok v) l = record { said = l.said; read = is_read laws (lines_of text) l.said l.read; are = l.are }
+lines_found laws text items (Err e) l = tt
 
 pub only : {V : Type 0} → ReaderLaws → (text : List ℕ) (items : V → List ℕ) (r : Result V AsmError)
     → IfOk r (λ v. IsBuilt text (items v))

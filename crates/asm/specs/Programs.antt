@@ -7,6 +7,7 @@ use Rattle.insn.specs.declared.decoding.TheConstants.{MAX_SLOTS}
 use Rattle.insn.specs.declared.instruction.Insn.{Insn}
 use Rattle.asm.specs.Lines.{Token, lines_of, HasTokens}
 use Rattle.asm.specs.Statements.{Name, Statement, Labelled, Instruction, Says}
+use Rattle.asm.specs.declared.program.InsnLine.{InsnLine}
 use Rattle.asm.specs.declared.refusal.AsmError.{AsmError}
 use Rattle.asm.specs.declared.refusal.AsmError.TheVariants as error
 
@@ -76,6 +77,13 @@ instructions_of label_slots slot (Some (Labelled name) ∷ more) = instructions_
 instructions_of label_slots slot (Some (Instruction i target) ∷ more) = option_and_then
     (λ j. option_map (λ code. j ∷ code) (instructions_of label_slots (slot + slots_of i) more)) (linked_one label_slots slot i target)
 
+-- the slot and the number of the line of each instruction; the first line has the slot and the number given
+abbrev pub insn_lines : ℕ → ℕ → List (Option Statement) → List InsnLine
+insn_lines slot line [] = []
+insn_lines slot line (None ∷ more) = insn_lines slot (line + 1) more
+insn_lines slot line (Some (Labelled name) ∷ more) = insn_lines slot (line + 1) more
+insn_lines slot line (Some (Instruction i target) ∷ more) = record { slot = slot; line = line } ∷ insn_lines (slot + slots_of i) (line + 1) more
+
 -- ---- texts
 
 -- a text names these instructions
@@ -90,6 +98,12 @@ pub record IsAssembled (text bytes : List ℕ) : Type 0 where
   pub named : Names text code
   pub few : slot_count code ≤ MAX_SLOTS
   pub spelled : bytes ≡ encodings code
+
+-- the instructions of a text are at these slots, and on these of its lines, of which the first is line 1
+pub record AreInsnLines (text : List ℕ) (lines : List InsnLine) : Type 0 where
+  pub said : List (Option Statement)
+  pub read : AreRead (lines_of text) said
+  pub are : lines ≡ insn_lines 0 1 said
 
 -- ---- refusals
 

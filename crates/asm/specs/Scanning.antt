@@ -9,11 +9,12 @@ use Rattle.insn.specs.declared.decoding.TheConstants.{MAX_SLOTS}
 use Rattle.insn.specs.declared.instruction.Insn.{Insn}
 use Rattle.asm.specs.Lines.{lines_of}
 use Rattle.asm.specs.Statements.{Statement, Labelled, Instruction}
-use Rattle.asm.specs.Programs.{IsInRange, labels, IsNameAmong, AreDistinct, slots_in, slot_of_label, instructions_of, LacksLabel}
+use Rattle.asm.specs.Programs.{IsInRange, labels, IsNameAmong, AreDistinct, slots_in, slot_of_label, instructions_of, insn_lines, LacksLabel}
 use Rattle.asm.specs.Reading.{line_statement}
 use Rattle.asm.specs.Parsing.{IsUnfit, UnderstandsLine}
 use Rattle.asm.specs.Faults.{fault_at}
 use Rattle.asm.specs.declared.refusal.LineError.{LineError}
+use Rattle.asm.specs.declared.program.InsnLine.{InsnLine}
 use Rattle.asm.specs.declared.refusal.AsmError.{AsmError}
 use Rattle.asm.specs.declared.refusal.AsmError.TheVariants as error
 use Rattle.asm.specs.declared.table.Table.{Table}
@@ -135,9 +136,10 @@ IsHalted lines error.Memory = Unit {0}
 
 -- ---- the second pass
 
--- So many lines are read, and these are left. The code so far is that of the lines read, of which the next is at the slot.
+-- So many lines are read, and these are left. The code so far is that of the lines read, of which the next is at the slot, and so
+-- are the lines of the instructions.
 pub record IsLinked (lines : List (List ℕ)) (table : Table) (n slot : ℕ) (rest : List (List ℕ))
-    (code : List Insn) : Type 0 where
+    (code : List Insn) (numbered : List InsnLine) : Type 0 where
   pub said : List (Option Statement)
   pub read : AreUnderstood lines said
   pub few : slots_in said ≤ MAX_SLOTS
@@ -150,6 +152,7 @@ pub record IsLinked (lines : List (List ℕ)) (table : Table) (n slot : ℕ) (re
   pub count : n ≡ length before
   pub slots : slot ≡ slots_in before
   pub linked : instructions_of (slot_of_label said) 0 before ≡ Some code
+  pub are : numbered ≡ insn_lines 0 1 before
 
 -- the instructions of a text without a fault
 pub record IsCodeOf (text : List ℕ) (code : List Insn) : Type 0 where
@@ -157,6 +160,12 @@ pub record IsCodeOf (text : List ℕ) (code : List Insn) : Type 0 where
   pub read : AreUnderstood (lines_of text) said
   pub few : slots_in said ≤ MAX_SLOTS
   pub linked : instructions_of (slot_of_label said) 0 said ≡ Some code
+
+-- and their lines
+pub record AreLinesOf (text : List ℕ) (lines : List InsnLine) : Type 0 where
+  pub said : List (Option Statement)
+  pub read : AreUnderstood (lines_of text) said
+  pub are : lines ≡ insn_lines 0 1 said
 
 -- the bytes are the encoding of those instructions
 pub record IsBuilt (text bytes : List ℕ) : Type 0 where

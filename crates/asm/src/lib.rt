@@ -15,6 +15,7 @@ mod statement;
 mod table;
 
 pub use program::{
-    assemble, law_listings_name_their_program, law_refusals_are_unique, law_texts_name_one_program,
+    Assembled, InsnLine, assemble, assemble_with_lines, law_listings_name_their_program,
+    law_refusals_are_unique, law_texts_name_one_program,
 };
 pub use refusal::AsmError;

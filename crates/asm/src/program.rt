@@ -3,18 +3,43 @@
 ghost use Rattle.std.specs.Prelude.{◌≡◌, ◌∷◌, ◌≤◌, ◌⊎◌, List, ℕ, Option, option_map, length, IfOk, IfErr, MatchResult, IsErrAnd};
 ghost use Rattle.asm.specs.Lines.{lines_of};
 ghost use Rattle.asm.specs.Statements.{Statement};
-ghost use Rattle.asm.specs.Programs.{slots_in, slot_of_label, linked_one, Names, IsAssembled, IsRefusedText};
+ghost use Rattle.asm.specs.Programs.{slots_in, slot_of_label, linked_one, Names, AreInsnLines, IsAssembled, IsRefusedText};
 ghost use Rattle.asm.specs.declared.refusal.AsmError.TheVariants.{Memory};
 ghost use Rattle.insn.specs.Encoding.{slot_count, encodings, AllFit};
 ghost use Rattle.insn.specs.Spelling.{listing};
 ghost use Rattle.asm.specs.Parsing.{said_in};
-ghost use Rattle.asm.specs.Scanning.{following_lines, lines_left, TextBegins, Fails, Holds, IsTableOf, IsHalted, IsCodeOf, IsBuilt};
+ghost use Rattle.asm.specs.Scanning.{following_lines, lines_left, TextBegins, Fails, Holds, IsTableOf, IsHalted, IsCodeOf, AreLinesOf, IsBuilt};
 
 use crate::refusal::AsmError;
 use crate::statement::{Line, parse};
 use crate::table::Table;
 use insn::{Insn, MAX_SLOTS, encode};
 use std::alloc::Global;
+
+/// Which line of a text writes an instruction.
+#[derive(Clone, Copy, Debug, PartialEq, Eq)]
+pub struct InsnLine {
+    /// The slot of the instruction.
+    pub slot: usize,
+    /// The number of the line, from 1 on.
+    pub line: usize,
+}
+
+/// A program that was assembled, and the lines that write it.
+#[derive(Drop)]
+pub struct Assembled {
+    /// The encoding of the program.
+    pub bytes: Vec<u8>,
+    /// The slot and the line of each instruction, in their order.
+    pub lines: Vec<InsnLine>,
+}
+
+/// The instructions of a text, and the lines that write them.
+#[derive(Drop)]
+struct NumberedCode {
+    code: Vec<Insn>,
+    lines: Vec<InsnLine>,
+}
 
 /// Returns the first line of a text, and what follows its line feed, if it has one.
 fn first_line(text: &str) -> (&str, Option<&str>)
@@ -80,16 +105,18 @@ fn linked(table: &Table<'_>, insn: Insn, label: Option<&[u8]>, slot: usize) -> O
     Some(insn.with_distance(target as i16 - (slot + 1) as i16))
 }
 
-/// Returns the instructions of a text whose lines have no fault, with the distances of the jumps to labels.
+/// Returns the instructions of a text whose lines have no fault, with the distances of the jumps to labels, and their lines.
 ///
 /// # Errors
 /// `UnknownLabel` at the first line that names an unknown one, or `Memory`.
-fn link(alloc: Global, text: &str, table: &Table<'_>) -> Result<Vec<Insn>, AsmError>
+fn link(alloc: Global, text: &str, table: &Table<'_>) -> Result<NumberedCode, AsmError>
     requires { IsTableOf text.now table.now }
-    ensures code { IfOk result (λ code. IsCodeOf text.now code.items) }
+    ensures code { IfOk result (λ linked. IsCodeOf text.now linked.code.items) }
+    ensures lines { IfOk result (λ linked. AreLinesOf text.now linked.lines.items) }
     ensures refused { IfErr result (IsHalted (lines_of text.now)) }
 {
     let mut code = Vec::new(alloc);
+    let mut lines = Vec::new(alloc);
     let mut slot = 0;
     let mut number = 0;
     let mut rest = Some(text);
@@ -99,11 +126,12 @@ fn link(alloc: Global, text: &str, table: &Table<'_>) -> Result<Vec<Insn>, AsmEr
         if let Line::Insn(insn, label) = line {
             let jump = linked(table, insn, label, slot).ok_or(AsmError::UnknownLabel(number))?;
             code.push(jump)?;
+            lines.push(InsnLine { slot, line: number })?;
             slot += insn.slots();
         }
         rest = after;
     }
-    Ok(code)
+    Ok(NumberedCode { code, lines })
 }
 
 /// Assembles a text.
@@ -111,13 +139,30 @@ fn link(alloc: Global, text: &str, table: &Table<'_>) -> Result<Vec<Insn>, AsmEr
 ///
 /// # Errors
 /// The first fault of a line; else `TooLong`; else the first unknown label; or `Memory`.
-fn build(alloc: Global, text: &str) -> Result<Vec<u8>, AsmError>
-    ensures built { IfOk result (λ bytes. IsBuilt text.now bytes.items) }
+fn build(alloc: Global, text: &str) -> Result<Assembled, AsmError>
+    ensures built { IfOk result (λ assembled. IsBuilt text.now assembled.bytes.items) }
+    ensures lines { IfOk result (λ assembled. AreLinesOf text.now assembled.lines.items) }
     ensures refused { IfErr result (IsHalted (lines_of text.now)) }
 {
     let table = labels(alloc, text)?;
-    let code = link(alloc, text, &table)?;
-    Ok(encode(alloc, &code)?)
+    let NumberedCode { code, lines } = link(alloc, text, &table)?;
+    let bytes = encode(alloc, &code)?;
+    Ok(Assembled { bytes, lines })
+}
+
+/// Assembles a text, and finds the line of each instruction.
+///
+/// # Errors
+/// The first fault of a line; else `TooLong`; else the first unknown label; or `Memory`.
+pub fn assemble_with_lines(alloc: Global, text: &str) -> Result<Assembled, AsmError>
+    ensures found { IfOk result (λ v. IsAssembled text.now v.bytes.items) }
+    ensures lines { IfOk result (λ v. AreInsnLines text.now v.lines.items) }
+    ensures only { (code : List Insn) → Names text.now code → slot_count code ≤ MAX_SLOTS
+        → MatchResult result (λ v. v.bytes.items ≡ encodings code) (λ e. e ≡ Memory) }
+    ensures refused { IfErr result (λ e. (e ≡ Memory) ⊎ IsRefusedText text.now e) }
+    ensures exact { (e : AsmError) → IsRefusedText text.now e → IsErrAnd result (λ f. (f ≡ e) ⊎ (f ≡ Memory)) }
+{
+    build(alloc, text)
 }
 
 /// Assembles a text.
@@ -131,7 +176,7 @@ pub fn assemble(alloc: Global, text: &str) -> Result<Vec<u8>, AsmError>
     ensures refused { IfErr result (λ e. (e ≡ Memory) ⊎ IsRefusedText text.now e) }
     ensures exact { (e : AsmError) → IsRefusedText text.now e → IsErrAnd result (λ f. (f ≡ e) ⊎ (f ≡ Memory)) }
 {
-    build(alloc, text)
+    Ok(assemble_with_lines(alloc, text)?.bytes)
 }
 
 /// States that a text names at most one program.

@@ -5,7 +5,7 @@ use Rattle.asm.proofs.program.link.Given as goal
 
 abbrev pub invariant-loop-rest : goal.invariant-loop-rest
 invariant-loop-rest l = record {
-  linked : IsLinked (lines_of l.text) l.table l.number l.slot (following_lines l.rest) l.code.items;
+  linked : IsLinked (lines_of l.text) l.table l.number l.slot (following_lines l.rest) l.code.items l.lines.items;
   room : l.number + lines_left l.rest ≤ length l.text + 1;
 }
 
