@@ -7,24 +7,28 @@ _relayd() {
   local options="--help --version" files="" values="" arguments=""
   case ${COMP_WORDS[1]} in
   assemble)
-    options="--help"
+    options="--lines --help"
+    values="--lines"
     arguments="files"
     ;;
   order)
-    options="--help"
+    options="--lines --from --help"
+    values="--lines --from"
     arguments="files"
     ;;
   disassemble)
-    options="--slots --help"
+    options="--slots --lines --help"
+    values="--lines"
     arguments="files"
     ;;
   verify)
-    options="--help"
+    options="--lines --help"
+    values="--lines"
     arguments="files"
     ;;
   explain)
-    options="--slot --help"
-    values="--slot"
+    options="--slot --lines --help"
+    values="--slot --lines"
     arguments="files"
     ;;
   graph)
@@ -32,15 +36,15 @@ _relayd() {
     arguments="files"
     ;;
   trace)
-    options="--data --help"
-    values="--data"
+    options="--data --side --source --tx --permit --channel --lines --help"
+    values="--data --side --source --tx --permit --channel --lines"
     arguments="files"
     ;;
   replay)
-    options="--nonce --why --confine --realm --user --users --secret --revoked --slots --user-slots --relay-ip --relay-ip6 \
-      --first-port --client --peer --same-as --help"
+    options="--nonce --why --confine --trace --cover --realm --user --users --secret --revoked --slots --user-slots \
+      --relay-ip --relay-ip6 --first-port --client --peer --same-as --help"
     files="--users --secret --revoked --client --peer"
-    values="--nonce --realm --user --slots --user-slots --relay-ip --relay-ip6 --first-port --same-as"
+    values="--nonce --trace --realm --user --slots --user-slots --relay-ip --relay-ip6 --first-port --same-as"
     arguments="files"
     ;;
   serve)

@@ -17,7 +17,7 @@ STUCK = bytes.fromhex("bf20000000000000 9500000000000000")
 ACCEPTED = "accepted 2 instructions\n"
 TRACED = "0 mov r0, 2\n1 exit\nexit 2\nwindow none\ndestination none\n"
 KNOWN = "0 mov r0, 2               ; r1 context\n1 exit                    ; r0 =2; r1 context\n"
-COST = "at most 2 steps a run\n"
+COST = "at most 2 steps a run, 2 of 100000 steps of verification, 0 states kept\n"
 LONGEST = 65507
 # the words, the status, standard output, standard error
 CASES = [

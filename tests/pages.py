@@ -57,6 +57,9 @@ def standing_in(word, folder):
     if word.endswith(".bpf"):
         run(["assemble", "examples/relay/client.s", folder / word], cwd=folder)
         return word
+    if word.endswith(".lines"):
+        run(["assemble", "examples/relay/client.s", folder / "of_lines.bpf", "--lines", folder / word], cwd=folder)
+        return word
     found = [f"examples/{example}" for end, example in STAND_INS.items() if word.endswith(end)]
     return found[0] if found and not word.startswith("-") else word
 

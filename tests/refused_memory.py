@@ -42,6 +42,9 @@ SECRET = pathlib.Path(FOLDER.name) / "secret"
 SECRET.write_text("a secret of the test\nand the former one\n")
 REVOKED = pathlib.Path(FOLDER.name) / "revoked"
 REVOKED.write_text("ann\nben\n")
+# a source map of the program whose jumps lead backward
+LINES = pathlib.Path(FOLDER.name) / "lines"
+LINES.write_text("".join(f"{slot} a.s:{slot + 1} text\n" for slot in range(7)))
 # command lines, each with its status where no allocation is refused
 CASES = [
     (["verify", FOURTH_BYTE], 0),
@@ -64,6 +67,13 @@ CASES = [
     (["order", BRANCHES_TEXT, "/dev/null"], 1),
     (["disassemble", HEADER], 0),
     (["disassemble", BRANCHES_TEXT], 1),
+    (["assemble", UNCHECKED_TEXT, "/dev/null", "--lines", "/dev/null"], 0),
+    (["order", BACKWARD, "/dev/null", "--from", str(LINES), "--lines", "/dev/null"], 0),
+    (["verify", BACKWARD, "--lines", str(LINES)], 1),
+    (["disassemble", BACKWARD, "--lines", str(LINES)], 0),
+    (["trace", str(EXAMPLES / "permitted_source.bpf"), "--permit", "127.0.0.1", "--channel", "0x4000=192.0.2.7:1"], 0),
+    (["replay", "--user", "u:p", "--cover", "/dev/null"], 0),
+    (["replay", "--user", "u:p", "--trace", "1", str(EXAMPLES / "session.events")], 0),
     (["replay", "--user", "u:p", "--users", USERS, "--client", FOURTH_BYTE, "--peer", HEADER, "/dev/null"], 0),
     (["replay", "--user", "u:p", "--nonce", "a b", "/dev/null"], 1),
     (["replay", "--secret", str(SECRET), "--revoked", str(REVOKED), "/dev/null"], 0),

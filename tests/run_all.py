@@ -16,7 +16,7 @@ from lib.program import TOP, build, finish
 # walked_tables compiles for two minutes, so it begins first; refused_memory takes each processor that the others leave, and is the
 # only one here that binds ports
 SIDE_BY_SIDE = ["walked_tables", "shipped", "refusals", "kernel_vectors", "kernel_verdicts", "verdicts", "run_agrees",
-                "texts", "sizes", "files", "changed_inputs", "ordering", "c_programs", "replay", "relaying", "failing_io", "memory",
+                "texts", "source_maps", "traces", "sizes", "files", "changed_inputs", "ordering", "c_programs", "replay", "relaying", "failing_io", "memory",
                 "release", "packaging", "refused_memory"]
 # worst_programs measures time and memory; the others bind ports, and most wait for what a server does
 ALONE = ["pages", "worst_programs", "serve", "check", "time_limited", "recording", "server_log", "hostile", "hostile_programs", "clock", "clients",

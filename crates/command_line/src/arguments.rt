@@ -107,6 +107,27 @@ pub(crate) const RELAY: &[Argument] = &[
 /// No arguments.
 const NONE: &[Argument] = &[];
 
+/// The program in a file.
+const FILE: Argument = Argument {
+    name: "file",
+    takes: Takes::Word("FILE"),
+    help: "The program: its encoded instructions (RFC 9669), 1 to 4,096 slots of 8 bytes",
+};
+
+/// The source map of a program that is read.
+const LINES: Argument = Argument {
+    name: "lines",
+    takes: Takes::Value("MAP"),
+    help: "The program's source map, whose lines are printed beside its slots",
+};
+
+/// The source map of a program that is written.
+const NEW_LINES: Argument = Argument {
+    name: "lines",
+    takes: Takes::Value("MAP"),
+    help: "Write the source map of the new program to a file, too: SLOT FILE:LINE and its text for each slot",
+};
+
 /// Those of `assemble`.
 const ASSEMBLE: &[Argument] = &[
     Argument {
@@ -119,6 +140,7 @@ const ASSEMBLE: &[Argument] = &[
         takes: Takes::Word("OUT"),
         help: "The file to write: the program's encoded instructions",
     },
+    NEW_LINES,
 ];
 
 /// Those of `order`.
@@ -133,62 +155,76 @@ const ORDER: &[Argument] = &[
         takes: Takes::Word("OUT"),
         help: "The file to write: the program's encoded instructions",
     },
+    NEW_LINES,
+    Argument {
+        name: "from",
+        takes: Takes::Value("MAP"),
+        help: "The source map of IN, whose lines are those of the new one; the slots of IN by default",
+    },
 ];
 
 /// Those of `disassemble`.
 const DISASSEMBLE: &[Argument] = &[
-    Argument {
-        name: "file",
-        takes: Takes::Word("FILE"),
-        help: "The program: its encoded instructions (RFC 9669), 1 to 4,096 slots of 8 bytes",
-    },
+    FILE,
     Argument {
         name: "slots",
         takes: Takes::Nothing,
         help: "Write the slot of each instruction after it, as a comment",
     },
+    LINES,
 ];
 
 /// Those of `verify`.
-const VERIFY: &[Argument] = &[Argument {
-    name: "file",
-    takes: Takes::Word("FILE"),
-    help: "The program: its encoded instructions (RFC 9669), 1 to 4,096 slots of 8 bytes",
-}];
+const VERIFY: &[Argument] = &[FILE, LINES];
 
 /// Those of `explain`.
 const EXPLAIN: &[Argument] = &[
-    Argument {
-        name: "file",
-        takes: Takes::Word("FILE"),
-        help: "The program: its encoded instructions (RFC 9669), 1 to 4,096 slots of 8 bytes",
-    },
+    FILE,
     Argument {
         name: "slot",
         takes: Takes::Value("N"),
         help: "Print each state from which the verifier made a step at this slot",
     },
+    LINES,
 ];
 
 /// Those of `graph`.
-const GRAPH: &[Argument] = &[Argument {
-    name: "file",
-    takes: Takes::Word("FILE"),
-    help: "The program: its encoded instructions (RFC 9669), 1 to 4,096 slots of 8 bytes",
-}];
+const GRAPH: &[Argument] = &[FILE];
 
 /// Those of `trace`.
 const TRACE: &[Argument] = &[
-    Argument {
-        name: "file",
-        takes: Takes::Word("FILE"),
-        help: "The program: its encoded instructions (RFC 9669), 1 to 4,096 slots of 8 bytes",
-    },
+    FILE,
     Argument {
         name: "data",
         takes: Takes::Value("HEX"),
         help: "The datagram in hexadecimal digits, at most 65,507 bytes; empty by default",
     },
+    Argument {
+        name: "side",
+        takes: Takes::Value("SIDE"),
+        help: "The side that it comes from: client, which is the default, or peer",
+    },
+    Argument {
+        name: "source",
+        takes: Takes::Value("A:P"),
+        help: "The address and the port that it comes from; 127.0.0.1:9 by default",
+    },
+    Argument {
+        name: "tx",
+        takes: Takes::Value("HEX"),
+        help: "The transaction id, in 24 hexadecimal digits; zeros by default",
+    },
+    Argument {
+        name: "permit",
+        takes: Takes::Values("A"),
+        help: "An address that the client's allocation permits; may be repeated",
+    },
+    Argument {
+        name: "channel",
+        takes: Takes::Values("N=A:P"),
+        help: "A channel of the client's allocation, as 0x4000=192.0.2.7:5000; may be repeated",
+    },
+    LINES,
 ];
 
 /// Those of `replay` alone.
@@ -212,6 +248,16 @@ const REPLAY: &[Argument] = &[
         name: "confine",
         takes: Takes::Nothing,
         help: "Confine the programs to the peers that clients have permitted, as serve does",
+    },
+    Argument {
+        name: "trace",
+        takes: Takes::Value("N"),
+        help: "Print each instruction of the run of the event on line N, in place of the answers",
+    },
+    Argument {
+        name: "cover",
+        takes: Takes::Nothing,
+        help: "Print to standard error how often each instruction of the programs ran, and each jump was taken",
     },
 ];
 

@@ -101,52 +101,80 @@ pub struct ServerOptions<'a> {
     pub unconfined: bool,
 }
 
-/// A subcommand of relayd, with the values of its arguments.
+/// What a program that is traced gets beside the datagram, as texts. Each is `None` where it is not given.
+#[derive(Clone, Copy, Debug, PartialEq, Eq)]
+pub struct TraceOptions<'a> {
+    /// The side that the datagram comes from.
+    pub side: Option<&'a str>,
+    /// The address and the port that it comes from.
+    pub source: Option<&'a str>,
+    /// The transaction id.
+    pub tx: Option<&'a str>,
+    /// The addresses that the client's allocation permits, in the order in which they are given.
+    pub permits: Option<&'a [&'a str]>,
+    /// The channels of the client's allocation, each as `N=A:P`, in the order in which they are given.
+    pub channels: Option<&'a [&'a str]>,
+}
+
+/// A subcommand of relayd, with the values of its arguments. `lines` is the file of a source map: one that is read, whose lines are
+/// printed beside the slots of the program, or one that is written.
 #[derive(Clone, Copy, Debug)]
 pub enum Subcommand<'a> {
     /// Verify the program in a file.
     Verify {
         file: &'a str,
+        lines: Option<&'a str>,
     },
     /// Print what the verifier knows of the program in a file, or why it refuses it. `slot` is the slot whose states are
     /// printed, and `None` stands for all.
     Explain {
         file: &'a str,
         slot: Option<usize>,
+        lines: Option<&'a str>,
     },
     /// Draw the blocks of the program in a file and its jumps.
     Graph {
         file: &'a str,
     },
     /// Run the program in a file over a datagram and print each step. `data` is the datagram in
-    /// hexadecimal digits, and `None` stands for the empty one.
+    /// hexadecimal digits, and `None` stands for the empty one. `given` is what else the program gets.
     Trace {
         file: &'a str,
         data: Option<&'a str>,
+        lines: Option<&'a str>,
+        given: TraceOptions<'a>,
     },
     /// Assemble the text in a file, and write the program to another.
     Assemble {
         input: &'a str,
         output: &'a str,
+        lines: Option<&'a str>,
     },
-    /// Put the program in a file in an order in which every jump leads forward, and write the program to another.
+    /// Put the program in a file in an order in which every jump leads forward, and write the program to another. `from` is the
+    /// source map of the program in the first file, and `None` stands for its slots.
     Order {
         input: &'a str,
         output: &'a str,
+        lines: Option<&'a str>,
+        from: Option<&'a str>,
     },
     /// Print the program in a file as text, with the slot of each instruction where `slots` says so.
     Disassemble {
         file: &'a str,
         slots: bool,
+        lines: Option<&'a str>,
     },
     /// Replay the events in a file through a relay, and print each answer, with its reason where `why` says so. The file `-`
     /// is standard input. The nonce is `n1` by default. Where `confine` says so, the programs are confined to the peers that
-    /// clients have permitted.
+    /// clients have permitted. `trace` is the line whose run is printed in place of the answers, and where `cover` says so, it is
+    /// printed what of the programs the events met.
     Replay {
         events: &'a str,
         nonce: &'a str,
         why: bool,
         confine: bool,
+        trace: Option<u64>,
+        cover: bool,
         options: Options<'a>,
     },
     /// Serve clients and peers over UDP sockets.

@@ -4,7 +4,7 @@ use crate::defaults::{
     BUFFER, FIRST_PORT, LISTEN, NONCE, NONCE_LIFETIME, REALM, RECORD_LIMIT, SLOTS,
 };
 use crate::values::{ValueError, buffer, ip, ip6, number, octets6, port, seconds, slots};
-use crate::{Options, ServerOptions, Subcommand};
+use crate::{Options, ServerOptions, Subcommand, TraceOptions};
 use clap::ArgMatches;
 use std::net::{Ipv4Addr, Ipv6Addr};
 
@@ -35,27 +35,41 @@ fn is_given(matches: &ArgMatches<'_>, id: &str) -> bool {
 fn assemble_of<'a>(matches: &'a ArgMatches<'_>) -> Option<Subcommand<'a>> {
     let input = text(matches, "in")?;
     let output = text(matches, "out")?;
-    Some(Subcommand::Assemble { input, output })
+    let lines = text(matches, "lines");
+    Some(Subcommand::Assemble {
+        input,
+        output,
+        lines,
+    })
 }
 
 /// Returns the subcommand `order` of its matches, or `None` where a file is missing.
 fn order_of<'a>(matches: &'a ArgMatches<'_>) -> Option<Subcommand<'a>> {
     let input = text(matches, "in")?;
     let output = text(matches, "out")?;
-    Some(Subcommand::Order { input, output })
+    let lines = text(matches, "lines");
+    let from = text(matches, "from");
+    Some(Subcommand::Order {
+        input,
+        output,
+        lines,
+        from,
+    })
 }
 
 /// Returns the subcommand `disassemble` of its matches, or `None` where the file is missing.
 fn disassemble_of<'a>(matches: &'a ArgMatches<'_>) -> Option<Subcommand<'a>> {
     let file = text(matches, "file")?;
     let slots = is_given(matches, "slots");
-    Some(Subcommand::Disassemble { file, slots })
+    let lines = text(matches, "lines");
+    Some(Subcommand::Disassemble { file, slots, lines })
 }
 
 /// Returns the subcommand `verify` of its matches, or `None` where the file is missing.
 fn verify_of<'a>(matches: &'a ArgMatches<'_>) -> Option<Subcommand<'a>> {
     let file = text(matches, "file")?;
-    Some(Subcommand::Verify { file })
+    let lines = text(matches, "lines");
+    Some(Subcommand::Verify { file, lines })
 }
 
 /// Returns the subcommand `graph` of its matches, or `None` where the file is missing.
@@ -67,8 +81,18 @@ fn graph_of<'a>(matches: &'a ArgMatches<'_>) -> Option<Subcommand<'a>> {
 /// Returns the subcommand `trace` of its matches, or `None` where the file is missing.
 fn trace_of<'a>(matches: &'a ArgMatches<'_>) -> Option<Subcommand<'a>> {
     let file = text(matches, "file")?;
-    let data = text(matches, "data");
-    Some(Subcommand::Trace { file, data })
+    Some(Subcommand::Trace {
+        file,
+        data: text(matches, "data"),
+        lines: text(matches, "lines"),
+        given: TraceOptions {
+            side: text(matches, "side"),
+            source: text(matches, "source"),
+            tx: text(matches, "tx"),
+            permits: texts(matches, "permit"),
+            channels: texts(matches, "channel"),
+        },
+    })
 }
 
 /// Returns the subcommand `explain` of its matches, or `None` where the file is missing.
@@ -80,7 +104,8 @@ fn explain_of<'a>(matches: &'a ArgMatches<'_>) -> Result<Option<Subcommand<'a>>,
         return Ok(None);
     };
     let slot = slots("--slot <N>", text(matches, "slot"))?;
-    Ok(Some(Subcommand::Explain { file, slot }))
+    let lines = text(matches, "lines");
+    Ok(Some(Subcommand::Explain { file, slot, lines }))
 }
 
 /// Returns the options that set up a relay, of the matches of a subcommand.
@@ -118,6 +143,7 @@ fn replay_of<'a>(matches: &'a ArgMatches<'_>) -> Result<Option<Subcommand<'a>>, 
     let Some(events) = text(matches, "events") else {
         return Ok(None);
     };
+    let trace = number("--trace <N>", text(matches, "trace"))?;
     let options = options_of(matches)?;
     let nonce = text_or(matches, "nonce", NONCE);
     let why = is_given(matches, "why");
@@ -126,6 +152,8 @@ fn replay_of<'a>(matches: &'a ArgMatches<'_>) -> Result<Option<Subcommand<'a>>, 
         nonce,
         why,
         confine: is_given(matches, "confine"),
+        trace,
+        cover: is_given(matches, "cover"),
         options,
     }))
 }

@@ -181,11 +181,11 @@ keeps_appended (Some xs) (Some ys) (Some zs) t p q = q ∙ p
 
 -- the lines of a file, from those of the program that it encodes, or from why it encodes none
 pub code_lines : (code : List Insn) (file : List ℕ) (a b : Option (List ℕ)) → Encodes code file → (found : Explained) → ExplainsCode code a b found → ExplainsFile file a b found
-code_lines code file a b encodes (Accepted cost) explains = tt
+code_lines code file a b encodes (Accepted cost effort) explains = tt
 code_lines code file a b encodes Refused explains = inl (code, (encodes, explains))
 
 pub kept_explained : (file : List ℕ) (a b c : Option (List ℕ)) (found : Explained) → Keeps b c → ExplainsFile file a b found → ExplainsFile file a c found
-kept_explained file a b c (Accepted cost) keeps explains = tt
+kept_explained file a b c (Accepted cost effort) keeps explains = tt
 kept_explained file a b c Refused keeps (inl (code, (encodes, e))) = inl (
   code,
   (

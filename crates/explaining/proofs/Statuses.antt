@@ -13,7 +13,7 @@ use Rattle.explaining.specs.declared.file.Explained.{Explained}
 use Rattle.explaining.specs.declared.file.Explained.TheVariants.{Accepted, Refused}
 
 pub of_code : (code : List Insn) (file : List ℕ) → Encodes code file → (r : Result Explained ExplainError) → IfOk r (IsExplainedCode code) → IfOk r (IsExplained file)
-of_code code file encodes (Ok (Accepted cost)) is = (code, record { encoded = encodes; safe = is.0 }, is.1)
+of_code code file encodes (Ok (Accepted cost effort)) is = (code, record { encoded = encodes; safe = is.0 }, is.1)
 of_code code file encodes (Ok Refused) is = (Verify is.0, is.1, (code, encodes, is.2))
 of_code code file encodes (Err e) is = tt
 

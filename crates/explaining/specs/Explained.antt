@@ -16,12 +16,12 @@ use Rattle.explaining.specs.declared.file.Explained.TheVariants.{Accepted, Refus
 
 -- the loader accepts the file, and a run of its program costs so much at most; or it refuses it for another cause than memory
 abbrev pub IsExplained : List ℕ → Explained → Type 0
-IsExplained file (Accepted cost) = (code : List Insn) × IsLoaded code file × IsCostOf code cost
+IsExplained file (Accepted cost effort) = (code : List Insn) × IsLoaded code file × IsCostOf code cost
 IsExplained file Refused = (e : LoadError) × (IsMemoryRefusal e → ⊥) × IsLoadRefusal file e
 
 -- the same of a program that was decoded
 abbrev pub IsExplainedCode : List Insn → Explained → Type 0
-IsExplainedCode code (Accepted cost) = IsSafe code × IsCostOf code cost
+IsExplainedCode code (Accepted cost effort) = IsSafe code × IsCostOf code cost
 IsExplainedCode code Refused = (e : Refusal) × (IsMemoryRefusal (Verify e) → ⊥) × MayRefuse code BUDGET e
 
 -- a graph is drawn of what the loader accepts, or of what it refuses for this cause, which isn't memory

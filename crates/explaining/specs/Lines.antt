@@ -113,10 +113,10 @@ pub record ExplainsRefusal (code : List Insn) (old new : Option (List ℕ)) : Ty
 
 -- where the program is refused, it is explained
 abbrev pub ExplainsCode : List Insn → Option (List ℕ) → Option (List ℕ) → Explained → Type 0
-ExplainsCode code old new (Accepted cost) = Unit {0}
+ExplainsCode code old new (Accepted cost effort) = Unit {0}
 ExplainsCode code old new Refused = ExplainsRefusal code old new
 
 -- so is that of a file, unless it encodes no program
 abbrev pub ExplainsFile : List ℕ → Option (List ℕ) → Option (List ℕ) → Explained → Type 0
-ExplainsFile file old new (Accepted cost) = Unit {0}
+ExplainsFile file old new (Accepted cost effort) = Unit {0}
 ExplainsFile file old new Refused = ((code : List Insn) × (Encodes code file × ExplainsRefusal code old new)) ⊎ ((e : DecodeError) × IsRefused file e)

@@ -16,6 +16,7 @@ ghost use Rattle.explaining.specs.Paths.{IsStatePath, ShowsRefusal};
 
 use crate::changes::state_note;
 use crate::cost::{Cost, cost_of};
+use crate::effort::{Effort, effort_of};
 use crate::error::ExplainError;
 use crate::printing::{
     is_reached, print_busiest, print_fault, print_firsts, print_line, print_refusal, print_steps,
@@ -34,8 +35,8 @@ use verifier::{Pending, Progress, Refusal, Steps, Walk};
 /// What an explanation has found of a file.
 #[derive(Clone, Copy, Debug, PartialEq, Eq)]
 pub enum Explained {
-    /// The loader accepts it. A run of its program costs so much at most.
-    Accepted(Cost),
+    /// The loader accepts it. A run of its program costs so much at most, and its verification took so much.
+    Accepted(Cost, Effort),
     /// The loader refuses it.
     Refused,
 }
@@ -187,8 +188,9 @@ fn explain<W: Write>(
     let program = Program::new(alloc, code)?;
     let refusal = match verdict {
         Ok(_) => {
+            let effort = effort_of(alloc, &program, &made)?;
             let cost = print_accepted(alloc, &program, &firsts, slot, out)?;
-            return Ok(Explained::Accepted(cost));
+            return Ok(Explained::Accepted(cost, effort));
         }
         Err(Refusal::Memory { .. }) => return Err(ExplainError::Memory),
         Err(refusal) => refusal,

@@ -5,6 +5,7 @@
 mod access;
 mod changes;
 mod cost;
+mod effort;
 mod error;
 mod file;
 mod graph;
@@ -15,6 +16,7 @@ mod searching;
 mod text;
 
 pub use cost::Cost;
+pub use effort::Effort;
 pub use error::ExplainError;
 pub use file::{Explained, explain_file};
 pub use graph::graph_file;

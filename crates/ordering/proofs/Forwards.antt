@@ -20,7 +20,8 @@ use Rattle.semantics.specs.declared.reason.Reason.TheVariants.{JumpBackward, Jum
 use Rattle.semantics.specs.declared.fetching.Fetched.{Fetched}
 use Rattle.semantics.specs.declared.fetching.Fetched.TheVariants.{Begins, Inside, Past}
 use Rattle.verifier.specs.Layout.{distance_checked, fetched_checked, HasGoodJumps}
-use Rattle.ordering.specs.Orders.{any_target, free_step_by_effect, free_step_of_fetched, free_step, KeepsMeaning}
+use Rattle.ordering.specs.Orders.{any_target, free_step_by_effect, free_step_of_fetched, free_step, KeepsMeaningBy}
+use Rattle.ordering.specs.declared.places.Places.TheVariants.{Kept}
 use Rattle.ordering.specs.Tails.{JumpsAhead}
 use Rattle.ordering.proofs.Backs.{target_back}
 use Rattle.ordering.proofs.Effects.{EffectOf, effect_flow}
@@ -94,13 +95,17 @@ module _ (w : Environment) (code : List Insn) (s : State) (jumps : HasGoodJumps 
   same_step = same_fetched (fetch code s.slot) refl
 
 -- a program whose jumps lead forward keeps its own meaning
-pub keeps_itself : (code : List Insn) → HasGoodJumps code → KeepsMeaning code code
+pub keeps_itself : (code : List Insn) → HasGoodJumps code → KeepsMeaningBy Kept code code
 keeps_itself code jumps = record {
-  place = λ slot. slot;
-  start = refl;
-  steps = λ w s entered. record {
-    goes = λ next e. inl (sym (same_step w code s jumps) ∙ e);
-    exits = λ verdict e. sym (same_step w code s jumps) ∙ e;
-    sticks = λ reason slot e. sym (same_step w code s jumps) ∙ e;
+  meaning = record {
+    place = λ slot. slot;
+    start = refl;
+    steps = λ w s entered. record {
+      goes = λ next e. inl (sym (same_step w code s jumps) ∙ e);
+      exits = λ verdict e. sym (same_step w code s jumps) ∙ e;
+      sticks = λ reason slot e. sym (same_step w code s jumps) ∙ e;
+    };
   };
+  same = λ slot. refl;
+  reached = λ slot reached. refl;
 }

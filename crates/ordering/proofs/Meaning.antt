@@ -1,6 +1,6 @@
 -- The instructions that were placed keep the meaning of the program.
 use Rattle.std.proofs.Common.{◌≡◌, ℕ, ◌+◌, ◌-◌, ℤ, pos, List, [], ◌∷◌, Option, Some, None, Result, Ok, Err, refl, sym, ap, ◌∙◌, subst, inl, inr, arith}
-use Rattle.std.specs.Prelude.{IfOk}
+use Rattle.std.specs.Prelude.{IfOk, zero, suc, map, is_some, slice_index_or}
 use Rattle.insn.specs.Encoding.{slots_of, slot_count}
 use Rattle.insn.specs.Jumps.{with_distance}
 use Rattle.insn.specs.declared.instruction.Insn.{Insn}
@@ -21,11 +21,13 @@ use Rattle.semantics.specs.declared.fetching.Fetched.{Fetched}
 use Rattle.semantics.specs.declared.fetching.Fetched.TheVariants.{Begins, Inside, Past}
 use Rattle.semantics.specs.declared.fetching.Branch.{Branch}
 use Rattle.semantics.specs.declared.fetching.Branch.TheVariants.{NotTaken, Taken}
-use Rattle.ordering.specs.Orders.{any_target, next_landing, any_flow_slot, IsOneOf, LeadsBy, IsPath, FallsTo, IsEntered, free_step_by_effect, free_step_of_fetched, free_step, moved, GoesTo, GoesOverJump, KeepsStep, KeepsMeaning}
+use Rattle.ordering.specs.Orders.{any_target, next_landing, any_flow_slot, IsOneOf, LeadsBy, IsPath, FallsTo, IsEntered, free_step_by_effect, free_step_of_fetched, free_step, moved, GoesTo, GoesOverJump, KeepsStep, place_or, KeepsMeaningBy}
 use Rattle.ordering.specs.Tails.{BeginsBack}
-use Rattle.ordering.specs.Searches.{mark_at, LeadsToPlace, JumpsTo, IsPlaced, IsOrdered}
+use Rattle.ordering.specs.Searches.{mark_at, slot_of_mark, LeadsToPlace, JumpsTo, IsPlaced, IsOrdered, ArePlaces}
+use Rattle.ordering.specs.declared.places.Places.{Places}
+use Rattle.ordering.specs.declared.places.Places.TheVariants as places
 use Rattle.ordering.specs.declared.search.Mark.{Mark}
-use Rattle.ordering.specs.declared.search.Mark.TheVariants.{Unseen, Open, Placed}
+use Rattle.ordering.specs.declared.search.Mark.TheVariants.{Placed}
 use Rattle.ordering.proofs.Backs.{target_back}
 use Rattle.ordering.proofs.Effects.{EffectOf, effect_flow, redistanced, moved_effect}
 use Rattle.ordering.proofs.Placing.{same_slots, placed_begins}
@@ -67,6 +69,12 @@ target_is code slot k landed (Jumps y) x d e = ap (any_target code slot) (sym (s
 target_is code slot k landed (Forks y) x d e = ap (any_target code slot) (sym (some_same y x d)) ∙ e
 target_is code slot k landed flow.Ends x d e = absurd (none_is_not_some x d)
 
+-- the slots of marks are theirs, one by one
+slots_at : (n : ℕ) (marks : List Mark) (slot : ℕ) → slice_index_or (map (slot_of_mark n) marks) slot None ≡ slot_of_mark n (mark_at marks slot)
+slots_at n [] slot = refl
+slots_at n (m ∷ marks) zero = refl
+slots_at n (m ∷ marks) (suc slot) = slots_at n marks slot
+
 module _ (code new : List Insn) (marks : List Mark) (ordered : IsOrdered code marks new) where
   -- ---- every slot that a run may come to has a place
 
@@ -105,17 +113,12 @@ module _ (code new : List Insn) (marks : List Mark) (ordered : IsOrdered code ma
 
   -- ---- places
 
-  pub place_by : Mark → ℕ
-  place_by (Placed n) = slot_count new - n
-  place_by Open = 0
-  place_by Unseen = 0
-
   pub place : ℕ → ℕ
-  place slot = place_by (mark_at marks slot)
+  place slot = place_or slot (slot_of_mark (slot_count new) (mark_at marks slot))
 
   place_is : (slot n : ℕ) → mark_at marks slot ≡ Placed n → place slot ≡ slot_count new - n
-  unfolding place place_by
-  place_is slot n e = ap place_by e
+  unfolding place
+  place_is slot n e = ap (λ m. place_or slot (slot_of_mark (slot_count new) m)) e
 
   -- ---- one step
 
@@ -210,9 +213,20 @@ module _ (code new : List Insn) (marks : List Mark) (ordered : IsOrdered code ma
   starts : place 0 ≡ 0
   starts = place_is 0 (slot_count new) ordered.start ∙ omega arith
 
-  pub keeps_meaning : KeepsMeaning code new
-  keeps_meaning = record {
-    place = place;
-    start = starts;
-    steps = λ w s entered. let has = entered_placed s.slot entered in kept_step w s has.0 has.1 (ordered.placed s.slot has.0 has.1);
+  -- the meaning is kept by the places of the marks
+  pub keeps_meaning : (places : Places) → ArePlaces (slot_count new) marks places → KeepsMeaningBy places code new
+  unfolding place
+  keeps_meaning places.Kept are = absurd are
+  keeps_meaning (places.Moved found) are = record {
+    meaning = record {
+      place = place;
+      start = starts;
+      steps = λ w s entered. let has = entered_placed s.slot entered in kept_step w s has.0 has.1 (ordered.placed s.slot has.0 has.1);
+    };
+    same = λ slot. ap (place_or slot) (sym (found_at slot));
+    reached = λ slot reached. let has = entered_placed slot (inl reached) in
+        ap is_some (found_at slot ∙ ap (slot_of_mark (slot_count new)) has.1);
   }
+    where
+      found_at : (slot : ℕ) → slice_index_or found.items slot None ≡ slot_of_mark (slot_count new) (mark_at marks slot)
+      found_at slot = ap (λ slots. slice_index_or slots slot None) are ∙ slots_at (slot_count new) marks slot

@@ -6,15 +6,16 @@ use Rattle.insn.specs.declared.decoding.TheConstants.{MAX_SLOTS}
 use Rattle.insn.specs.declared.instruction.Insn.{Insn}
 use Rattle.semantics.specs.Reasons.{reason_at}
 use Rattle.verifier.specs.Layout.{HasGoodJumps}
-use Rattle.ordering.specs.Orders.{KeepsMeaning, HasNoLoop, IsOrderFault}
+use Rattle.ordering.specs.Orders.{KeepsMeaningBy, HasNoLoop, IsOrderFault}
 use Rattle.ordering.specs.declared.error.OrderError.{OrderError}
 use Rattle.ordering.specs.declared.error.OrderError.TheVariants as errors
+use Rattle.ordering.specs.declared.places.Places.{Places}
 use Rattle.ordering.specs.declared.file.FileError.{FileError}
 use Rattle.ordering.specs.declared.file.FileError.TheVariants as file
 
 -- the bytes of a file encode a program of which no loop is reached, and the new ones another one of the same meaning, all of whose
--- jumps lead forward
-pub record IsInOrder (bytes new : List ℕ) : Type 0 where
+-- jumps lead forward and which has the instructions at these places
+pub record IsInOrder (bytes new : List ℕ) (places : Places) : Type 0 where
   pub code : List Insn
   pub encodes : Encodes code bytes
   pub loopless : HasNoLoop code
@@ -23,7 +24,7 @@ pub record IsInOrder (bytes new : List ℕ) : Type 0 where
   pub few : slot_count in_order ≤ MAX_SLOTS
   pub spelled : new ≡ encodings in_order
   pub forward : HasGoodJumps in_order
-  pub meaning : KeepsMeaning code in_order
+  pub meaning : KeepsMeaningBy places code in_order
 
 -- they encode a program that is not put in order, for a reason
 pub record IsRefusedOrder (bytes : List ℕ) (error : OrderError) : Type 0 where

@@ -1,6 +1,6 @@
 -- Meaning. Where the branches of a program lead, forward or backward, its loops, and what a program in order keeps of its
 -- meaning.
-use Rattle.std.specs.Prelude.{◌≡◌, ℕ, zero, suc, ◌+◌, ◌<◌, ◌⊎◌, ℤ, pos, ◌+ℤ◌, int_le, unsigned_abs, List, [], ◌∷◌, length, Result, Ok, Err, if◌then◌else◌}
+use Rattle.std.specs.Prelude.{◌≡◌, ℕ, zero, suc, ◌+◌, ◌<◌, ◌⊎◌, ℤ, pos, ◌+ℤ◌, int_le, unsigned_abs, true, List, [], ◌∷◌, length, slice_index_or, Option, Some, None, is_some, Result, Ok, Err, if◌then◌else◌}
 use Rattle.insn.specs.Encoding.{slots_of, slot_count}
 use Rattle.insn.specs.declared.decoding.TheConstants.{MAX_SLOTS}
 use Rattle.insn.specs.declared.instruction.Insn.{Insn}
@@ -18,6 +18,8 @@ use Rattle.semantics.specs.declared.fetching.Fetched.TheVariants.{Begins, Inside
 use Rattle.semantics.specs.declared.fetching.Branch.{Branch}
 use Rattle.semantics.specs.declared.fetching.Branch.TheVariants.{NotTaken, Taken}
 use Rattle.ordering.specs.declared.error.OrderError.{OrderError}
+use Rattle.ordering.specs.declared.places.Places.{Places}
+use Rattle.ordering.specs.declared.places.Places.TheVariants.{Kept, Moved}
 use Rattle.ordering.specs.declared.error.OrderError.TheVariants as errors
 
 -- ---- where branches lead
@@ -162,3 +164,21 @@ pub record KeepsMeaning (old new : List Insn) : Type 0 where
   pub place : ℕ → ℕ
   pub start : place 0 ≡ 0
   pub steps : (w : Environment) (s : State) → IsEntered old s.slot → KeepsStep place w old new s
+
+-- ---- where the instructions are
+
+-- the slot that the instruction of a slot has in the program in order
+abbrev pub moved_slot : Places → ℕ → Option ℕ
+moved_slot Kept slot = Some slot
+moved_slot (Moved slots) slot = slice_index_or slots.items slot None
+
+-- without one, a slot stands for itself
+abbrev pub place_or : ℕ → Option ℕ → ℕ
+place_or slot None = slot
+place_or slot (Some place) = place
+
+-- the meaning is kept with these places, and each instruction that is reached has one
+pub record KeepsMeaningBy (places : Places) (old new : List Insn) : Type 0 where
+  pub meaning : KeepsMeaning old new
+  pub same : (slot : ℕ) → meaning.place slot ≡ place_or slot (moved_slot places slot)
+  pub reached : (slot : ℕ) → IsReachable old slot → is_some (moved_slot places slot) ≡ true

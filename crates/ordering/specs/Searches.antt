@@ -1,5 +1,5 @@
 -- Internal. A depth-first search: which slots were seen, the path to the current one, and what was placed.
-use Rattle.std.specs.Prelude.{◌≡◌, ℕ, ◌+◌, ◌≤◌, ℤ, pos, ◌⊎◌, List, [], ◌∷◌, length, Some, None, Ok, slice_index_or, reverse}
+use Rattle.std.specs.Prelude.{◌≡◌, ℕ, ◌+◌, ◌-◌, ◌≤◌, ℤ, pos, ◌⊎◌, List, [], ◌∷◌, length, map, Option, Some, None, Ok, slice_index_or, reverse}
 use Rattle.std.specs.List.{sum_by}
 use Rattle.insn.specs.Encoding.{slots_of, slot_count}
 use Rattle.insn.specs.Jumps.{with_distance}
@@ -16,6 +16,8 @@ use Rattle.semantics.specs.declared.fetching.Visit.{Visit}
 use Rattle.ordering.specs.Orders.{IsOneOf, LeadsBy, Leads}
 use Rattle.ordering.specs.BranchTargets.{IsVisit}
 use Rattle.ordering.specs.Tails.{tail_list, fetch_back, IsTail}
+use Rattle.ordering.specs.declared.places.Places.{Places}
+use Rattle.ordering.specs.declared.places.Places.TheVariants.{Kept, Moved}
 use Rattle.ordering.specs.declared.search.Mark.{Mark}
 use Rattle.ordering.specs.declared.search.Mark.TheVariants.{Unseen, Open, Placed}
 use Rattle.ordering.specs.declared.search.Look.{Look}
@@ -27,6 +29,12 @@ use Rattle.ordering.specs.declared.tail.Tail.{Tail}
 
 abbrev pub mark_at : List Mark → ℕ → Mark
 mark_at marks slot = slice_index_or marks slot Unseen
+
+-- the slot of an instruction that has a place, in a program of so many slots
+abbrev pub slot_of_mark : ℕ → Mark → Option ℕ
+slot_of_mark slots Unseen = None
+slot_of_mark slots Open = None
+slot_of_mark slots (Placed place) = Some (slots - place)
 
 -- a branch of the instruction at a slot leads to a slot that has a place
 pub record LeadsToPlace (code : List Insn) (marks : List Mark) (slot : ℕ) (i : Insn) (branch : Branch) (place : ℕ) : Type 0 where
@@ -156,6 +164,11 @@ LooksAt code marks at branch (New to) = LeadsBy code at.slot at.insn branch (Ok 
 LooksAt code marks at branch (Known None) = IsOneOf (branches at.insn) branch → ⊥
 LooksAt code marks at branch (Known (Some place)) = LeadsToPlace code marks at.slot at.insn branch place
 
--- the instructions of a program in order, from its end
-abbrev pub IsOrderedTail : List Insn → Tail → Type 0
-IsOrderedTail code tail = IsTail tail × ((marks : List Mark) × IsOrdered code marks (tail_list tail))
+-- the instructions of a program in order are placed, from its end
+abbrev pub IsOrderedSearch : List Insn → Search → Type 0
+IsOrderedSearch code s = IsTail s.tail × IsOrdered code s.marks.items (tail_list s.tail)
+
+-- these are their places
+abbrev pub ArePlaces : ℕ → List Mark → Places → Type 0
+ArePlaces n marks Kept = ⊥
+ArePlaces n marks (Moved found) = found.items ≡ map (slot_of_mark n) marks

@@ -8,7 +8,8 @@ ghost use Rattle.ordering.specs.declared.file.FileError.TheVariants.{Memory};
 ghost use Rattle.ordering.specs.Files.{IsInOrder, IsFileFault, file_error_text};
 
 use crate::error::OrderError;
-use crate::pass::order;
+use crate::pass::order_with_places;
+use crate::places::{InOrder, Places};
 use insn::{DecodeError, decode, encode};
 use std::alloc::{AllocError, Global};
 use std::error::Error;
@@ -47,15 +48,23 @@ impl From<AllocError> for FileError {
     }
 }
 
+/// A program all of whose jumps lead forward, as the bytes of a file.
+#[derive(Drop)]
+pub struct FileInOrder {
+    pub bytes: Vec<u8>,
+    /// Where the instructions of the program are that was put in order.
+    pub places: Places,
+}
+
 /// Returns the encoding of a program with the same meaning as the one that bytes encode, all of whose jumps lead forward, as
-/// [`order`] puts it in order.
+/// [`order_with_places`] puts it in order, and the places of its instructions.
 ///
 /// # Errors
 /// The first fault of the bytes, the fault of the program, or `Memory`.
-pub fn order_file(alloc: Global, bytes: &[u8]) -> Result<Vec<u8>, FileError>
-    ensures ok { IfOk result (λ new. IsInOrder bytes.now new.items) }
+pub fn order_file(alloc: Global, bytes: &[u8]) -> Result<FileInOrder, FileError>
+    ensures ok { IfOk result (λ new. IsInOrder bytes.now new.bytes.items new.places) }
     ensures unchanged { (code : List Insn) → Encodes code bytes.now → HasGoodJumps code
-        → IfOk result (λ new. new.items ≡ bytes.now) }
+        → IfOk result (λ new. new.bytes.items ≡ bytes.now) }
     ensures refused { IfErr result (IsFileFault bytes.now) }
 {
     let code = match decode(alloc, bytes) {
@@ -63,8 +72,11 @@ pub fn order_file(alloc: Global, bytes: &[u8]) -> Result<Vec<u8>, FileError>
         Err(DecodeError::Memory) => return Err(FileError::Memory),
         Err(refusal) => return Err(FileError::Program(refusal)),
     };
-    match order(alloc, &code) {
-        Ok(new) => Ok(encode(alloc, &new)?),
+    match order_with_places(alloc, &code) {
+        Ok(InOrder { code, places }) => {
+            let bytes = encode(alloc, &code)?;
+            Ok(FileInOrder { bytes, places })
+        }
         Err(OrderError::Memory) => Err(FileError::Memory),
         Err(refusal) => Err(FileError::Order(refusal)),
     }

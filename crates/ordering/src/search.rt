@@ -1,7 +1,7 @@
 //! A depth-first search over the instructions that are reached from slot 0. Each is placed once those that its branches
 //! lead to are.
 
-ghost use Rattle.std.specs.Prelude.{◌≡◌, ◌≤◌, OnOk, IfOk, IfErr, Ok};
+ghost use Rattle.std.specs.Prelude.{◌≡◌, ◌≤◌, OnOk, IfOk, IfErr, Ok, map};
 ghost use Rattle.insn.specs.Encoding.{slot_count, AllFit};
 ghost use Rattle.insn.specs.declared.decoding.TheConstants.{MAX_SLOTS};
 ghost use Rattle.semantics.specs.declared.fetching.Branch.TheVariants.{NotTaken, Taken};
@@ -9,14 +9,16 @@ ghost use Rattle.ordering.specs.Orders.{IsOrderFault};
 ghost use Rattle.ordering.specs.declared.search.Mark.TheVariants.{Unseen};
 ghost use Rattle.ordering.specs.declared.search.Look.TheVariants.{Known};
 ghost use Rattle.ordering.specs.BranchTargets.{IsVisit, IsBranchTarget};
-ghost use Rattle.ordering.specs.Searches.{mark_at, LeadsToVisit, LooksAt, Visits, Searches, IsOrderedTail, work_of};
+ghost use Rattle.ordering.specs.Searches.{mark_at, slot_of_mark, LeadsToVisit, LooksAt, Visits, Searches, IsOrderedSearch, ArePlaces, work_of};
+ghost use Rattle.ordering.specs.Tails.{tail_list};
 
 use crate::branches::branch_target;
 use crate::error::OrderError;
+use crate::places::{InOrder, Places};
 use crate::tail::Tail;
 use insn::MAX_SLOTS;
 use semantics::{Branch, Program, Visit};
-use std::alloc::Global;
+use std::alloc::{AllocError, Global};
 
 /// What the search knows of a slot.
 #[derive(Clone, Copy, Debug, PartialEq, Eq)]
@@ -27,6 +29,29 @@ pub(crate) enum Mark {
     Open,
     /// Its instruction has this place.
     Placed(usize),
+}
+
+impl Mark {
+    /// Returns the slot of an instruction that has a place, in a program of so many slots.
+    fn slot(self, slots: usize) -> Option<usize>
+        ensures { result ≡ slot_of_mark slots self }
+    {
+        match self {
+            Mark::Unseen | Mark::Open => None,
+            Mark::Placed(place) => Some(slots.saturating_sub(place)),
+        }
+    }
+}
+
+/// Returns the slots of the instructions that have places, in a program of so many slots.
+fn slots_of(alloc: Global, marks: &[Mark], slots: usize) -> Result<Vec<Option<usize>>, AllocError>
+    ensures { IfOk result (λ found. found.items ≡ map (slot_of_mark slots) marks.now) }
+{
+    let mut found = Vec::new(alloc);
+    for mark in marks {
+        found.push(mark.slot(slots))?;
+    }
+    Ok(found)
 }
 
 /// What a branch leads to.
@@ -181,23 +206,37 @@ impl Search {
             Look::Known(next) => self.place(program, at, taken, next),
         }
     }
+
+    /// Returns the instructions that were placed, and where they are.
+    ///
+    /// # Errors
+    /// Where memory runs out.
+    pub(crate) fn into_order(self, alloc: Global) -> Result<InOrder, AllocError>
+        ensures code { IfOk result (λ found. found.code.items ≡ tail_list self.tail) }
+        ensures places { IfOk result (λ found. ArePlaces self.tail.slots self.marks.items found.places) }
+    {
+        let Search { marks, tail, .. } = self;
+        let places = Places::Moved(slots_of(alloc, &marks, tail.slots())?);
+        let code = tail.into_code();
+        Ok(InOrder { code, places })
+    }
 }
 
-/// Returns the instructions that are reached from slot 0, in an order in which each jump leads forward.
+/// Returns a search that has placed the instructions that are reached from slot 0, in an order in which each jump leads forward.
 ///
 /// # Errors
 /// `Loop`, `Stuck`, `TooLong` or `Memory`.
-pub(crate) fn ordered(alloc: Global, program: &Program, first: Visit) -> Result<Tail, OrderError>
+pub(crate) fn ordered(alloc: Global, program: &Program, first: Visit) -> Result<Search, OrderError>
     requires few { slot_count program.now ≤ MAX_SLOTS }
     requires fit { AllFit program.now }
     requires start { first.slot ≡ 0 }
     requires here { IsVisit program.now first }
-    ensures ok { IfOk result (IsOrderedTail program.now) }
+    ensures ok { IfOk result (IsOrderedSearch program.now) }
     ensures err { IfErr result (IsOrderFault program.now) }
 {
     let mut search = Search::new(alloc, program, first)?;
     while let Some(at) = search.stack.pop() {
         search.visit(program, at)?;
     }
-    Ok(search.tail)
+    Ok(search)
 }

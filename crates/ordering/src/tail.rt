@@ -28,6 +28,13 @@ impl Tail {
         }
     }
 
+    /// Returns the number of the slots.
+    pub(crate) fn slots(&self) -> usize
+        ensures { result ≡ self.now.slots }
+    {
+        self.slots
+    }
+
     /// Puts an instruction before the others.
     ///
     /// # Errors

@@ -19,7 +19,7 @@ use Rattle.relay.specs.Found.{HasRun}
 use Rattle.relay.specs.Reasons.{last_slot_of}
 
 -- what a sink keeps, to which the steps of a path were reported, is the slot of the last one
-last_reported : (path : List Visit) (old new : ℕ) → Reports (λ (old : ℕ) (v : Visit) (new : ℕ). new ≡ v.slot) old path new
+pub last_reported : (path : List Visit) (old new : ℕ) → Reports (λ (old : ℕ) (v : Visit) (new : ℕ). new ≡ v.slot) old path new
     → new ≡ last_slot_of old path
 last_reported [] old new is = sym is
 last_reported (v ∷ path) old new (between, here, rest) = last_reported path between new rest
@@ -56,8 +56,6 @@ module _ (code : List Insn) (answers : HelperAnswers) (old started : Contents) (
   pub ends_over : (end : Result Outcome Stuck) → EndsWith end (run_of code started answers) → EndsWith end run_wanted
   ends_over end ends = subst (EndsWith end) run_is ends
 
-  pub last_slot_is : (last : ℕ)
-      → Reports (λ (old : ℕ) (v : Visit) (new : ℕ). new ≡ v.slot) 0 (run_of code started answers).path last
-      → last ≡ last_slot_of 0 run_wanted.path
-  last_slot_is last reported = last_reported (run_of code started answers).path 0 last reported
-      ∙ ap (λ (r : Run). last_slot_of 0 r.path) run_is
+  pub reports_over : {Log : Type 0} (Logs : Log → Visit → Log → Type 0) (before after : Log)
+      → Reports Logs before (run_of code started answers).path after → Reports Logs before run_wanted.path after
+  reports_over Logs before after reported = subst (λ (r : Run). Reports Logs before r.path after) run_is reported

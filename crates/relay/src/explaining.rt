@@ -8,7 +8,7 @@ ghost use Rattle.machine.specs.Tracing.{EndsWith};
 ghost use Rattle.programs.specs.Runs.{run_for};
 ghost use Rattle.relay.specs.ByPrograms.{Programs, program_for};
 ghost use Rattle.relay.specs.Found.{held_for};
-ghost use Rattle.relay.specs.Grounds.{reason_by};
+ghost use Rattle.relay.specs.Grounds.{reason_by, side_of};
 ghost use Rattle.relay.specs.Reasons.{exit_slot, missing_to_peer, reason_of_datagram, reason_of_event, unsent_by_run, HoldsAtExit};
 ghost use Rattle.relay.specs.ReasonTexts.{line_ending};
 ghost use Rattle.relay.specs.Replays.{answer_text};
@@ -23,7 +23,7 @@ use crate::relay::Relay;
 use attributes::Addr;
 use events::{Parsed, Source, parse};
 use insn::Insn;
-use machine::{Outcome, Sink, Stuck};
+use machine::{Outcome, Side, Sink, Stuck};
 use programs::SENDS;
 use rules::{Discard, Disposition};
 use tables::LiveSlot;
@@ -124,6 +124,16 @@ pub fn law_reasons_are_of_the_answers()
         × (answer_text true programs config s e ≡ answer ++ line_ending (Some (reason_of_event programs config s e))) }
 {}
 
+/// Returns the side that a datagram comes from.
+fn side_of(from: &Source) -> Side
+    ensures { result ≡ side_of from.now }
+{
+    match from {
+        Source::Client(_) => Side::Client,
+        Source::Peer { .. } => Side::Peer,
+    }
+}
+
 /// Returns a reason where reasons are wanted.
 pub(crate) fn reason_if(explains: bool, reason: Reason) -> Option<Reason>
     ensures { result ≡ (if explains then Some reason else None) }
@@ -135,7 +145,28 @@ impl Relay {
     ghost use Rattle.std.specs.Prelude.{◌≡◌};
     ghost use Rattle.control.specs.declared.config.Config.{Config};
     ghost use Rattle.events.specs.Reading.{event_in};
-    ghost use Rattle.relay.specs.Grounds.{grounds_of_line};
+    ghost use Rattle.relay.specs.Grounds.{grounds_of_line, run_of_event, IsTraced};
+
+    /// Traces the run that the step of the event of a line makes, if it is a datagram's, and returns its side and its end. The
+    /// steps are reported to the sink, and it writes over the room.
+    pub fn trace_line<S: Sink>(
+        &mut self,
+        line: &[u8],
+        sink: &mut S,
+    ) -> Option<(Side, Result<Outcome, Stuck>)>
+        ensures traced { IsTraced S.Logs (S.log sink.old) (S.log sink.new)
+            (run_of_event self.old (event_in self.old.config.slots line.now)) result }
+        ensures rest { self.new ≡ record self.old { frame = self.new.frame } }
+    {
+        let slots = self.slots();
+        match parse(line, slots, self.area()) {
+            Some(Parsed::Datagram { meta, n }) => {
+                let end = self.traced(&meta, n, sink);
+                Some((side_of(&meta.from), end))
+            }
+            _ => None,
+        }
+    }
 
     /// Finds what explains the step of the datagram of a line, if it has one, where reasons are wanted. It writes over the room.
     /// See docs/DECISIONS.md, "Why a replay answers so".

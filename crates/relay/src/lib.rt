@@ -23,6 +23,7 @@ pub use error::RelayError;
 pub use events::{Action, Meta, Source};
 pub use explaining::law_reasons_are_of_the_answers;
 pub use isolation::law_programs_keep_users_apart;
+pub use lines::next_line;
 pub use reason::{Reason, Unsent};
 pub use relay::Relay;
 pub use replaying::ReplayError;

@@ -21,10 +21,7 @@ pub const MAX_LINE: usize = 131_200;
 ///
 /// # Errors
 /// `Read` where the input fails, and `Memory`.
-pub(crate) fn next_line<R: BufRead>(
-    input: &mut Input<R>,
-    line: &mut Vec<u8>,
-) -> Result<bool, ReplayError>
+pub fn next_line<R: BufRead>(input: &mut Input<R>, line: &mut Vec<u8>) -> Result<bool, ReplayError>
     requires { input.old.failed ≡ false }
     ensures line { IfOk result (λ more. more ≡ true
         → IfSome input.old.remaining (λ xs. (xs ≢ []) × IsLine line.new.items xs)) }

@@ -6,7 +6,7 @@ ghost use Rattle.rules.specs.Systems.{is_served};
 ghost use Rattle.relay.specs.ByPrograms.{is_there};
 
 use crate::error::RelayError;
-use crate::explaining::{Grounds, unsent_at};
+use crate::explaining::{Grounds, LastSlot, unsent_at};
 use crate::found::{Found, window_found, window_to_client, window_to_peer};
 use crate::running::{context_for, live_for, program_for, run_over, trace_over};
 use crate::shipped::are_shipped;
@@ -18,7 +18,7 @@ use credentials::User;
 use events::{Meta, Source};
 use helpers::Lookup;
 use loader::Loaded;
-use machine::Frame;
+use machine::{Frame, Outcome, Sink, Stuck};
 use programs::{PASSES, SENDS};
 use rules::{Answer, Confinement, Discard, answer_client, discard_by_rules};
 use std::alloc::Global;
@@ -91,7 +91,8 @@ impl Relay {
     ghost use Rattle.machine.specs.Contents.{datagram_of};
     ghost use Rattle.rules.specs.Answers.{sending_of_answer, LiesInRoom};
     ghost use Rattle.relay.specs.Found.{disposition_of_found, disposition_of_passing, sending_of_found, reply_of_passing, HasRoomFor};
-    ghost use Rattle.relay.specs.Grounds.{grounds_of};
+    ghost use Rattle.relay.specs.Grounds.{grounds_of, run_of_datagram};
+    ghost use Rattle.machine.specs.Tracing.{EndsWith, Reports};
     ghost use Rattle.relay.specs.Relays.{state_of, datagram_at};
     ghost use Rattle.relay.specs.Shipped.{AreShipped};
     ghost use Rattle.rules.specs.Dispositions.{disposition_of};
@@ -402,6 +403,28 @@ impl Relay {
         }
     }
 
+    /// Traces the run that the step of a datagram makes, the first `n` bytes of the room, and returns its end. Its steps are reported
+    /// to the sink, and it writes over the room.
+    pub(crate) fn traced<S: Sink>(
+        &mut self,
+        meta: &Meta,
+        n: usize,
+        sink: &mut S,
+    ) -> Result<Outcome, Stuck>
+        requires { n ≤ MAX_DATAGRAM }
+        ensures end { EndsWith result (run_of_datagram self.old meta.entry.now (datagram_at self.old n)) }
+        ensures reported { Reports S.Logs (S.log sink.old)
+            (run_of_datagram self.old meta.entry.now (datagram_at self.old n)).path (S.log sink.new) }
+        ensures rest { self.new ≡ record self.old { frame = self.new.frame } }
+    {
+        let moment = moment_of(self.greatest, meta.now);
+        self.tables.law_are_well_formed();
+        let helpers = Lookup::new(live_for(&self.tables, moment, &meta.from, &mut Uncounted));
+        let program = program_for(&self.client, &self.peer, &meta.from);
+        let context = context_for(&meta.tx, &meta.from);
+        trace_over(program, &mut self.frame, &helpers, &context, n, sink)
+    }
+
     /// Finds what explains the step of a datagram, the first `n` bytes of the room, and runs its program over the room.
     pub(crate) fn grounds(&mut self, meta: &Meta, n: usize) -> Grounds
         requires { n ≤ MAX_DATAGRAM }
@@ -415,11 +438,12 @@ impl Relay {
         let helpers = Lookup::new(live_for(&self.tables, moment, &meta.from, &mut Uncounted));
         let program = program_for(&self.client, &self.peer, &meta.from);
         let context = context_for(&meta.tx, &meta.from);
-        let (slot, end) = trace_over(program, &mut self.frame, &helpers, &context, n);
+        let mut last = LastSlot { slot: 0 };
+        let end = trace_over(program, &mut self.frame, &helpers, &context, n, &mut last);
         let unsent = unsent_at(&meta.from, &helpers.live, &end);
         Grounds {
             ruled,
-            slot,
+            slot: last.slot,
             unsent,
         }
     }

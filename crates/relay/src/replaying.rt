@@ -73,7 +73,7 @@ impl Relay {
     ///
     /// # Errors
     /// Where the output fails; a beginning of the line was written.
-    fn play<W: Write>(
+    pub fn play<W: Write>(
         &mut self,
         line: &[u8],
         output: &mut Output<W>,

@@ -5,18 +5,16 @@ ghost use Rattle.semantics.specs.declared.limits.TheConstants.{MAX_DATAGRAM};
 ghost use Rattle.rules.specs.declared.confinement.Confinement.{Confinement};
 ghost use Rattle.machine.specs.Contents.{room_of};
 ghost use Rattle.machine.specs.Contexts.{environment_around, context_of};
-ghost use Rattle.machine.specs.Tracing.{run_over, EndsWith};
+ghost use Rattle.machine.specs.Tracing.{run_over, EndsWith, Reports};
 ghost use Rattle.tables.specs.Rows.{rows_at};
 ghost use Rattle.programs.specs.Runs.{context_for};
 ghost use Rattle.relay.specs.ByPrograms.{program_for};
 ghost use Rattle.relay.specs.Found.{HasRun, answers_of_look_up, held_for};
-ghost use Rattle.relay.specs.Reasons.{last_slot_of};
 
-use crate::explaining::LastSlot;
 use events::{Meta, Source};
 use helpers::Lookup;
 use loader::Loaded;
-use machine::{Context, Frame, Outcome, Side, Stuck, run, trace};
+use machine::{Context, Frame, Outcome, Side, Sink, Stuck, run, trace};
 use tables::{Count, LiveSlot, Tables};
 use verifier::Verified;
 
@@ -84,23 +82,22 @@ pub(crate) fn run_over(
     run(program, frame, helpers)
 }
 
-/// Traces a program's run over the first `n` bytes of a frame's room, and returns the slot of its last step and its end.
-pub(crate) fn trace_over(
+/// Traces a program's run over the first `n` bytes of a frame's room, and returns its end. Its steps are reported to the sink.
+pub(crate) fn trace_over<S: Sink>(
     program: &Verified,
     frame: &mut Frame,
     helpers: &Lookup<'_>,
     context: &Context,
     n: usize,
-) -> (usize, Result<Outcome, Stuck>)
+    sink: &mut S,
+) -> Result<Outcome, Stuck>
     requires { n ≤ MAX_DATAGRAM }
-    ensures slot { let environment = environment_around (context_of context.now) (answers_of_look_up helpers.now) in
-        result.0 ≡ last_slot_of 0 (run_over environment program.now (take n (room_of frame.old))).path }
     ensures end { let environment = environment_around (context_of context.now) (answers_of_look_up helpers.now) in
-        EndsWith result.1 (run_over environment program.now (take n (room_of frame.old))) }
+        EndsWith result (run_over environment program.now (take n (room_of frame.old))) }
+    ensures reported { let environment = environment_around (context_of context.now) (answers_of_look_up helpers.now) in
+        Reports S.Logs (S.log sink.old) (run_over environment program.now (take n (room_of frame.old))).path (S.log sink.new) }
 {
     frame.law_room();
     frame.start(context, n);
-    let mut sink = LastSlot { slot: 0 };
-    let end = trace(program.code(), frame, helpers, &mut sink);
-    (sink.slot, end)
+    trace(program.code(), frame, helpers, sink)
 }

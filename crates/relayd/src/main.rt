@@ -5,37 +5,38 @@
 mod check_command;
 mod clock;
 mod confinements;
+mod covering;
 mod explanations;
 mod filters;
 mod options;
 mod options_file;
 mod replay_command;
+mod reports;
 mod serve_command;
 mod starting;
+mod trace_command;
+mod writing;
 
 use crate::check_command::{check, end};
 use crate::explanations::{explain, graph};
 use crate::options_file::further_words;
 use crate::replay_command::{ReplayOptions, replay};
+use crate::reports::{report_file, verify_file};
 use crate::serve_command::serve;
-use asm::{AsmError, assemble};
-use basics::streams::Output;
+use crate::trace_command::{Traced, trace};
+use crate::writing::{NewFiles, assemble_file, reorder_file};
 use clap::ArgMatches;
 use clap::error::ErrorKind as LineErrorKind;
 use command_line::{Subcommand, ValueError, line, subcommand_of};
-use ordering::{FileError, order_file};
-use report::{Ask, ReportError, fail, report};
+use report::{Ask, ReportError, fail};
 use std::alloc::{AllocError, Global};
 use std::fs::File;
-use std::io::{self, BufWriter, Read, Write};
+use std::io::{self, Read, Write};
 use std::net::Net;
 use std::process::ExitCode;
 use std::random::RandomSource;
 use std::rt::{Clock, Env, Files};
 use std::{env, fs};
-
-/// The exit status where a file cannot be read or written.
-const FILE_FAULT: u8 = 3;
 
 /// The exit status of a bad command line.
 const BAD_LINE: u8 = 2;
@@ -74,96 +75,6 @@ fn read_text<R: Files + Input + AllocGlobal>(rt: &R, path: &str) -> io::Result<S
     }
 }
 
-/// Reads the file at `path`, prints the report on it and returns the exit status.
-fn report_file<R: Files + Input + Print + AllocGlobal, E: Write>(
-    rt: &R,
-    err: &mut E,
-    path: &str,
-    ask: Ask<'_>,
-) -> u8 {
-    let file = match read_whole(rt, path) {
-        Ok(file) => file,
-        Err(error) if error.kind() == io::ErrorKind::OutOfMemory => {
-            return fail(err, ReportError::Memory);
-        }
-        Err(_) => return fail_at(err, "read", path),
-    };
-    match BufWriter::new(rt.alloc(), io::writer(rt)) {
-        Ok(out) => report(rt.alloc(), ask, &file, &mut Output::new(out), err),
-        Err(_) => fail(err, ReportError::Memory),
-    }
-}
-
-/// Prints the report on whether the program in a file may be loaded and, where it is refused, which command explains why.
-fn verify_file<R: Files + Input + Print + AllocGlobal, E: Write>(
-    rt: &R,
-    err: &mut E,
-    path: &str,
-) -> u8 {
-    let status = report_file(rt, err, path, Ask::Verify);
-    if status == REFUSED {
-        let _ = writeln!(err, "relayd explain {path} shows why");
-    }
-    status
-}
-
-/// Prints that a file cannot be read or written, and returns the exit status.
-fn fail_at<E: Write>(err: &mut E, action: &str, path: &str) -> u8 {
-    let _ = writeln!(err, "cannot {action} {path}");
-    FILE_FAULT
-}
-
-/// Assembles the text in the file `input`, writes the program to the file `output` and returns the exit status. A
-/// text that is refused writes nothing.
-/// See docs/DECISIONS.md, "The output file comes last".
-fn assemble_file<R: Files + Input + Print + AllocGlobal, E: Write>(
-    rt: &R,
-    err: &mut E,
-    input: &str,
-    output: &str,
-) -> u8 {
-    let text = match read_text(rt, input) {
-        Ok(text) => text,
-        Err(error) if error.kind() == io::ErrorKind::OutOfMemory => {
-            return fail(err, ReportError::Memory);
-        }
-        Err(_) => return fail_at(err, "read", input),
-    };
-    let program = match assemble(rt.alloc(), text.as_str()) {
-        Ok(program) => program,
-        Err(AsmError::Memory) => return fail(err, ReportError::Memory),
-        Err(refusal) => return fail(err, ReportError::Text(refusal)),
-    };
-    write_program(rt, err, output, &program)
-}
-
-/// Writes a program to the file `output`, prints its length and returns the exit status.
-fn write_program<R: Files + Print + AllocGlobal, E: Write>(
-    rt: &R,
-    err: &mut E,
-    output: &str,
-    program: &[u8],
-) -> u8 {
-    if fs::write(rt, output, program).is_err() {
-        return fail_at(err, "write", output);
-    }
-    let length = program.len();
-    match println!(rt; "wrote {length} bytes") {
-        Ok(()) => 0,
-        Err(_) => fail(err, ReportError::Output),
-    }
-}
-
-/// Prints why a file is not put in order, and what to do where it is an object file, and returns the exit status.
-fn refuse_order<E: Write>(err: &mut E, file: &[u8], error: FileError) -> u8 {
-    if error == FileError::Memory {
-        return fail(err, ReportError::Memory);
-    }
-    let _ = writeln!(err, "refused {error}");
-    note_object_file(err, file);
-    REFUSED
-}
-
 /// Prints what to do with an object file, where a file is one.
 fn note_object_file<E: Write>(err: &mut E, file: &[u8]) {
     if file.starts_with(b"\x7fELF") {
@@ -171,27 +82,6 @@ fn note_object_file<E: Write>(err: &mut E, file: &[u8]) {
             err,
             "an object file: take its .text by llvm-objcopy -O binary --only-section=.text"
         );
-    }
-}
-
-/// Puts the program in the file `input` in an order in which every jump leads forward, writes it to the file `output` and
-/// returns the exit status. A program that is refused writes nothing.
-fn reorder_file<R: Files + Input + Print + AllocGlobal, E: Write>(
-    rt: &R,
-    err: &mut E,
-    input: &str,
-    output: &str,
-) -> u8 {
-    let file = match read_whole(rt, input) {
-        Ok(file) => file,
-        Err(error) if error.kind() == io::ErrorKind::OutOfMemory => {
-            return fail(err, ReportError::Memory);
-        }
-        Err(_) => return fail_at(err, "read", input),
-    };
-    match order_file(rt.alloc(), &file) {
-        Ok(program) => write_program(rt, err, output, &program),
-        Err(error) => refuse_order(err, &file, error),
     }
 }
 
@@ -212,20 +102,54 @@ fn run_subcommand<
         Err(error) => return report_value(err, error),
     };
     match subcommand {
-        Subcommand::Verify { file } => verify_file(rt, err, file),
-        Subcommand::Explain { file, slot } => explain(rt, err, file, slot),
+        Subcommand::Verify { file, lines } => verify_file(rt, err, file, lines),
+        Subcommand::Explain { file, slot, lines } => explain(rt, err, file, slot, lines),
         Subcommand::Graph { file } => graph(rt, err, file),
-        Subcommand::Trace { file, data } => report_file(rt, err, file, Ask::Trace { hex: data }),
-        Subcommand::Disassemble { file, slots } => {
-            report_file(rt, err, file, Ask::Disassemble { slots })
+        Subcommand::Trace {
+            file,
+            data,
+            lines,
+            given,
+        } => {
+            let traced = Traced { file, data, lines };
+            trace(rt, err, traced, &given)
         }
-        Subcommand::Assemble { input, output } => assemble_file(rt, err, input, output),
-        Subcommand::Order { input, output } => reorder_file(rt, err, input, output),
+        Subcommand::Disassemble { file, slots, lines } => {
+            let slots = slots || lines.is_some();
+            report_file(rt, err, file, Ask::Disassemble { slots }, lines)
+        }
+        Subcommand::Assemble {
+            input,
+            output,
+            lines,
+        } => {
+            let files = NewFiles {
+                input,
+                output,
+                lines,
+            };
+            assemble_file(rt, err, files)
+        }
+        Subcommand::Order {
+            input,
+            output,
+            lines,
+            from,
+        } => {
+            let files = NewFiles {
+                input,
+                output,
+                lines,
+            };
+            reorder_file(rt, err, files, from)
+        }
         Subcommand::Replay {
             events,
             nonce,
             why,
             confine,
+            trace,
+            cover,
             options,
         } => {
             let replayed = ReplayOptions {
@@ -233,6 +157,8 @@ fn run_subcommand<
                 nonce,
                 why,
                 confine,
+                trace,
+                cover,
             };
             replay(rt, err, replayed, &options)
         }

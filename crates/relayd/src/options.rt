@@ -1,20 +1,25 @@
 //! Options that set up a relay, and why a command that takes them ends early.
 
 use crate::confinements::confinement_of;
+use asm::AsmError;
 use command_line::{OptionFault, Options, RelayedError, ValueError};
 use credentials::User;
+use machine::Side;
 use monitoring::RecordError;
 use peer_filter::{FilterError, NetworkError};
 use programs::{CLIENT, PEER};
 use relay::Relay;
+use report::{MapError, ReportError};
 use setup::{
     LineFault, ProgramError, RefusedProgram, RevokedError, Secrets, SecretsError, Setup,
     SetupError, UsersError, add_users, add_users_of_lines, relay_of, revoked_in, secrets_in,
 };
 use sockets::BindErrorKind;
+use std::io::Write;
 use std::net::SocketAddr;
 use std::rt::Files;
 use std::{fs, io};
+use tables::TableError;
 use thiserror::Error;
 
 /// Why a command ends early. Displays as the line for standard error.
@@ -63,6 +68,18 @@ pub(crate) enum CommandError<'a> {
     /// The line of this number in the file of options, from 1 on, is no option's.
     #[error("refused options at line {0}: {1}")]
     OptionLine(u64, OptionFault),
+    /// The text of a program is refused.
+    #[error("refused {0}")]
+    Text(AsmError),
+    /// A report is refused.
+    #[error("{0}")]
+    Report(ReportError),
+    /// An allocation can't have the permission or the channel of a text.
+    #[error("refused {0}: {1}")]
+    Row(&'a str, TableError),
+    /// A text is no source map of a program.
+    #[error("refused lines {0}")]
+    Lines(MapError),
     /// A file can't be read.
     #[error("cannot read {0}")]
     File(&'a str),
@@ -87,6 +104,9 @@ pub(crate) enum CommandError<'a> {
     /// The system gives no random numbers.
     #[error("cannot draw random numbers")]
     Random,
+    /// The line of this number, from 1 on, isn't there, or its event is no datagram.
+    #[error("no datagram at line {0}")]
+    NoRun(u64),
     /// The line of this number, from 1 on, is no event's.
     #[error("refused line {0}")]
     Line(u64),
@@ -109,6 +129,11 @@ impl CommandError<'_> {
             | CommandError::OptionLine(..)
             | CommandError::Secret
             | CommandError::Revoked(_)
+            | CommandError::Text(_)
+            | CommandError::Lines(_)
+            | CommandError::Report(_)
+            | CommandError::Row(..)
+            | CommandError::NoRun(_)
             | CommandError::Program(_)
             | CommandError::Setup(_)
             | CommandError::Line(_) => 1,
@@ -120,6 +145,17 @@ impl CommandError<'_> {
             CommandError::Bind(..) | CommandError::Record(..) | CommandError::Server(_) => 3,
             CommandError::Wait | CommandError::Random => 3,
             CommandError::Memory => 4,
+        }
+    }
+}
+
+/// Prints the line of a fault to `err`, if a command has one, and returns the exit status.
+pub(crate) fn status_of<E: Write>(err: &mut E, ended: Result<u8, CommandError<'_>>) -> u8 {
+    match ended {
+        Ok(status) => status,
+        Err(fault) => {
+            let _ = writeln!(err, "{fault}");
+            fault.status()
         }
     }
 }
@@ -213,6 +249,20 @@ fn revoked_of<'a, R: Files + AllocGlobal>(
 pub(crate) struct ProgramBytes {
     pub(crate) client: Option<Vec<u8>>,
     pub(crate) peer: Option<Vec<u8>>,
+}
+
+impl ProgramBytes {
+    /// Returns the bytes of the program of a side, of a relay that was set up: the shipped one where no file is given.
+    pub(crate) fn of(&self, side: Side) -> &[u8] {
+        let (read, shipped) = match side {
+            Side::Client => (&self.client, CLIENT),
+            Side::Peer => (&self.peer, PEER),
+        };
+        match read {
+            Some(bytes) => bytes.as_slice(),
+            None => shipped,
+        }
+    }
 }
 
 /// The relayed addresses of a relay.

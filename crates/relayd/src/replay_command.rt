@@ -1,6 +1,7 @@
 //! The command `replay`: replays the events of a file through a relay.
 
-use crate::options::{CommandError, Relayed, set_up, unread};
+use crate::covering::{cover_events, trace_event};
+use crate::options::{CommandError, Prepared, Relayed, set_up, unread};
 use basics::streams::{self, Output};
 use command_line::{Options, defaults};
 use relay::{Relay, ReplayError};
@@ -19,6 +20,10 @@ pub(crate) struct ReplayOptions<'a> {
     pub(crate) why: bool,
     /// Whether the programs are confined.
     pub(crate) confine: bool,
+    /// The line whose run is printed in place of the answers, if one is.
+    pub(crate) trace: Option<u64>,
+    /// Whether it is printed what of the programs the events met.
+    pub(crate) cover: bool,
 }
 
 /// Replays the events of a reader, prints the answers and flushes them.
@@ -38,25 +43,45 @@ fn play<'a, R: Print + AllocGlobal, B: BufRead + Drop>(
     if output.has_failed() || output.flush().is_err() {
         return Err(CommandError::Output);
     }
-    match played {
-        Ok(()) => Ok(()),
-        Err(ReplayError::Line(number)) => Err(CommandError::Line(number)),
-        Err(ReplayError::Read) => Err(CommandError::File(replay.events)),
-        Err(ReplayError::Write) => Err(CommandError::Output),
-        Err(ReplayError::Memory) => Err(CommandError::Memory),
+    played.map_err(|error| replay_fault(error, replay.events))
+}
+
+/// Returns the fault of a replay of a file.
+pub(crate) fn replay_fault<'a>(error: ReplayError, events: &'a str) -> CommandError<'a> {
+    match error {
+        ReplayError::Line(number) => CommandError::Line(number),
+        ReplayError::Read => CommandError::File(events),
+        ReplayError::Write => CommandError::Output,
+        ReplayError::Memory => CommandError::Memory,
+    }
+}
+
+/// Replays the events of a reader as it is asked for: their answers, with what of the programs they met, or the run of one event.
+fn play_as<'a, R: Print + AllocGlobal, E: Write, B: BufRead + Drop>(
+    rt: &R,
+    err: &mut E,
+    prepared: &mut Prepared,
+    reader: B,
+    replay: ReplayOptions<'a>,
+) -> Result<(), CommandError<'a>> {
+    match replay.trace {
+        Some(number) => trace_event(rt, &mut prepared.relay, reader, replay, number),
+        None if replay.cover => cover_events(rt, err, prepared, reader, replay),
+        None => play(rt, &mut prepared.relay, reader, replay),
     }
 }
 
 /// Replays the events of a file, or of standard input for the file `-`.
 /// See docs/DECISIONS.md, "Events from standard input".
-fn replay_file<'a, R: Files + Input + Print + AllocGlobal>(
+fn replay_file<'a, R: Files + Input + Print + AllocGlobal, E: Write>(
     rt: &R,
-    relay: &mut Relay,
+    err: &mut E,
+    prepared: &mut Prepared,
     replay: ReplayOptions<'a>,
 ) -> Result<(), CommandError<'a>> {
     if replay.events == "-" {
         return match BufReader::new(rt.alloc(), rt.reader()) {
-            Ok(reader) => play(rt, relay, reader, replay),
+            Ok(reader) => play_as(rt, err, prepared, reader, replay),
             Err(_) => Err(CommandError::Memory),
         };
     }
@@ -65,14 +90,15 @@ fn replay_file<'a, R: Files + Input + Print + AllocGlobal>(
         Err(error) => return Err(unread(&error, replay.events)),
     };
     match BufReader::new(rt.alloc(), file) {
-        Ok(reader) => play(rt, relay, reader, replay),
+        Ok(reader) => play_as(rt, err, prepared, reader, replay),
         Err(_) => Err(CommandError::Memory),
     }
 }
 
 /// Replays events through the relay that the options describe.
-fn replay_events<'a, R: Files + Input + Print + AllocGlobal>(
+fn replay_events<'a, R: Files + Input + Print + AllocGlobal, E: Write>(
     rt: &R,
+    err: &mut E,
     replay: ReplayOptions<'a>,
     options: &Options<'a>,
 ) -> Result<(), CommandError<'a>> {
@@ -81,7 +107,7 @@ fn replay_events<'a, R: Files + Input + Print + AllocGlobal>(
         ip6: options.relay_ip6,
     };
     let mut prepared = set_up(rt, options, replay.nonce, relayed, replay.confine)?;
-    replay_file(rt, &mut prepared.relay, replay)
+    replay_file(rt, err, &mut prepared, replay)
 }
 
 /// Replays events, prints the answers, or the line of the first fault to `err`, and returns the exit status.
@@ -91,7 +117,7 @@ pub(crate) fn replay<R: Files + Input + Print + AllocGlobal, E: Write>(
     replay: ReplayOptions<'_>,
     options: &Options<'_>,
 ) -> u8 {
-    match replay_events(rt, replay, options) {
+    match replay_events(rt, err, replay, options) {
         Ok(()) => 0,
         Err(fault) => {
             let _ = writeln!(err, "{fault}");

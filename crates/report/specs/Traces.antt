@@ -61,6 +61,12 @@ pub record PrintsTrace (digits file : List ℕ) (IsEnding : Ending → Type 0) (
   pub ended : IsEnding (traced_run code datagram).ending
   pub written : Appends old new (trace_text (traced_run code datagram))
 
+-- the status of a trace that has ended so
+abbrev pub IsEndStatus : Ending → ℕ → Type 0
+IsEndStatus (Exited verdict) status = status ≡ 0
+IsEndStatus (Stuck reason slot) status = status ≡ 1
+IsEndStatus Running status = ⊥
+
 abbrev pub IsExit : Ending → Type 0
 IsExit (Exited verdict) = Unit {0}
 IsExit (Stuck reason slot) = ⊥

@@ -6,12 +6,13 @@ ghost use Rattle.insn.specs.Encoding.{Encodes, slot_count};
 ghost use Rattle.insn.specs.declared.decoding.TheConstants.{MAX_SLOTS};
 ghost use Rattle.machine.specs.Contents.{datagram_of};
 ghost use Rattle.machine.specs.Contexts.{context_of};
-ghost use Rattle.report.specs.Traces.{digits_of, trace_context, EncodeDatagram, HasNoDatagram};
+ghost use Rattle.machine.specs.Tracing.{run_of};
+ghost use Rattle.report.specs.Traces.{digits_of, trace_context, EncodeDatagram, HasNoDatagram, IsEndStatus};
 ghost use Rattle.report.specs.declared.error.ReportError.TheVariants as errors;
 ghost use Rattle.report.specs.declared.reporting.Ask.TheVariants.{Disassemble, Trace, Verify};
 ghost use Rattle.report.specs.Statuses.{IsNoProgram, IsPrinted, IsRefusal, IsUnwritten, IsReportWritten, MayFail, Succeeds};
 ghost use Rattle.report.specs.Statuses.{is_output_failure, Writes, WritesIfRefused};
-ghost use Rattle.report.specs.Texts.{end_text, program_text};
+ghost use Rattle.report.specs.Texts.{end_text, program_text, trace_text};
 
 use crate::error::{ReportError, fail};
 use crate::text::{Destination, Window};
@@ -19,7 +20,9 @@ use basics::streams::Output;
 use disasm::{disassemble, disassemble_with_slots};
 use insn::{DecodeError, Insn, decode};
 use loader::{LoadError, load};
-use machine::{Addr, Context, Frame, MAX_DATAGRAM, NoAllocation, Outcome, Side, Stuck, trace};
+use machine::{
+    Addr, Context, Frame, Helpers, MAX_DATAGRAM, NoAllocation, Outcome, Side, Stuck, trace,
+};
 use std::alloc::{AllocError, Global};
 use std::io::Write;
 use verifier::Refusal;
@@ -81,10 +84,18 @@ fn report_verify<W: Write>(
     }
 }
 
-/// Decodes the digits into the frame and starts it on that datagram, in the context of a trace.
-fn fill(frame: &mut Frame, hex: Option<&str>) -> Result<(), ReportError>
+/// Decodes hexadecimal digits of either case into a frame, and starts it on that datagram, in a context. `None` stands for the empty
+/// datagram.
+///
+/// # Errors
+/// `Data` where the digits encode no datagram.
+pub fn start_frame(
+    frame: &mut Frame,
+    context: &Context,
+    hex: Option<&str>,
+) -> Result<(), ReportError>
     ensures started { OnOk result (frame.new.is_started ≡ true) }
-    ensures context { OnOk result (context_of frame.new.context ≡ trace_context) }
+    ensures context { OnOk result (frame.new.context ≡ context.now) }
     ensures datagram { OnOk result (EncodeDatagram (digits_of hex.entry) (datagram_of frame.new)) }
     ensures refused { IfErr result (λ e. (e ≡ errors.Data) × HasNoDatagram (digits_of hex.entry)) }
 {
@@ -96,15 +107,18 @@ fn fill(frame: &mut Frame, hex: Option<&str>) -> Result<(), ReportError>
     let (datagram, _) = frame.area().split_at_mut(n);
     match hex::decode_to_slice(digits, datagram) {
         Ok(()) => {
-            frame.start(&CONTEXT, n);
+            frame.start(context, n);
             Ok(())
         }
         Err(_) => Err(ReportError::Data),
     }
 }
 
-/// Prints how a traced run ended, and returns the status.
-fn report_end<W: Write>(
+/// Prints how a traced run ended, and returns the status: 0 for an exit, 1 where it is stuck.
+///
+/// # Errors
+/// `Output`.
+pub fn report_end<W: Write>(
     ended: Result<Outcome, Stuck>,
     out: &mut Output<W>,
 ) -> Result<u8, ReportError>
@@ -188,8 +202,35 @@ fn prepare(
     ensures why { IfErr result (MayFail (Trace hex.entry) file.now) }
     ensures going { is_output_failure result ≡ false }
 {
-    fill(frame, hex)?;
+    start_frame(frame, &CONTEXT, hex)?;
     program(alloc, file)
+}
+
+/// Prints each step of a program over a started frame, and how its run ended, and returns the status: 0 for an exit, 1 where it is
+/// stuck. Afterwards the frame is not started.
+///
+/// # Errors
+/// `Output`.
+pub fn report_run<W: Write, H: Helpers>(
+    code: &[Insn],
+    frame: &mut Frame,
+    helpers: &H,
+    out: &mut Output<W>,
+) -> Result<u8, ReportError>
+    requires few { slot_count code.now ≤ MAX_SLOTS }
+    requires started { frame.old.is_started ≡ true }
+    requires going { out.old.failed ≡ false }
+    ensures ended { IfOk result (IsEndStatus (run_of code.now frame.old (H.answers helpers.now)).ending) }
+    ensures written { OnOk result (Appends out.old.contents out.new.contents
+        (trace_text (run_of code.now frame.old (H.answers helpers.now)))) }
+    ensures why { IfErr result (λ e. e ≡ errors.Output) }
+    ensures failed { out.new.failed ≡ is_output_failure result }
+{
+    let ended = trace(code, frame, helpers, out);
+    if out.has_failed() {
+        return Err(ReportError::Output);
+    }
+    report_end(ended, out)
 }
 
 /// Prints each step of the program over the datagram, and how its run ended, and returns the status.
@@ -208,11 +249,7 @@ fn report_trace<W: Write>(
 {
     let mut frame = Frame::new(alloc).map_err(|_| ReportError::Memory)?;
     let code = prepare(alloc, &mut frame, hex, file)?;
-    let ended = trace(&code, &mut frame, &NoAllocation, out);
-    if out.has_failed() {
-        return Err(ReportError::Output);
-    }
-    report_end(ended, out)
+    report_run(&code, &mut frame, &NoAllocation, out)
 }
 
 /// Prints the report, flushes the output and returns the status.

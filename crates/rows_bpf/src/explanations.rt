@@ -30,7 +30,7 @@ pub fn explained(alloc: Global, row: &Row<'_>) -> Result<String> {
     }
 }
 
-/// Returns what a run of a program costs at most, as `explain` prints it.
+/// Returns what a run of a program costs at most, and what its verification took, as `explain` prints them.
 ///
 /// # Errors
 /// Where the program is refused by the assembler or the loader, or memory runs out.
@@ -38,7 +38,7 @@ pub fn cost(alloc: Global, row: &Row<'_>) -> Result<String> {
     let file = file_of(alloc, row.given)?;
     let mut out = Vec::new(alloc);
     match explain_file(alloc, &file, None, &mut out)? {
-        Explained::Accepted(cost) => Ok(format!(in alloc; "{cost}")?),
+        Explained::Accepted(cost, effort) => Ok(format!(in alloc; "{cost}, {effort}")?),
         Explained::Refused => bail!("the program is refused"),
     }
 }

@@ -14,6 +14,7 @@ use Rattle.semantics.specs.Runs.{Run}
 use Rattle.relay.specs.ByPrograms.{Programs, program_for}
 use Rattle.relay.specs.Reasons.{exit_slot, exit_unsent, last_slot_of, unsent_by_run}
 use Rattle.relay.specs.Relays.{datagram_at}
+use Rattle.relay.proofs.Frames.{last_reported}
 use Rattle.relay.proofs.LiveSlots.{answers_for}
 use Rattle.relay.proofs.relay.Relay.grounds.Goals as goal
 
@@ -46,12 +47,12 @@ module _ (c : goal.After-unsent_at-unsent) where
       λ i. run_over (environment_around (context_of (c.context_for-context.ensures i)) (answers i))
       (c.program_for-program.ensures c.self.inside.confinement i) bytes
 
-  slot_is : c.trace_over-slot.result.0 ≡ exit_slot programs given.tx given.from (live_at moment) bytes
-  slot_is = c.trace_over-slot.ensures.slot ∙ ap (λ (r : Run). last_slot_of 0 r.path) run_is
+  slot_is : c.trace_over-end.new.sink.slot ≡ exit_slot programs given.tx given.from (live_at moment) bytes
+  slot_is = last_reported _ 0 _ c.trace_over-end.ensures.reported ∙ ap (λ (r : Run). last_slot_of 0 r.path) run_is
 
   unsent_is : c.unsent_at-unsent.result ≡ exit_unsent programs given.tx given.from (live_at moment) bytes
   unsent_is =
-      c.unsent_at-unsent.ensures (live_at moment) _ live_is c.trace_over-slot.ensures.end
+      c.unsent_at-unsent.ensures (live_at moment) _ live_is c.trace_over-end.ensures.end
       ∙ ap (unsent_by_run given.from (live_at moment)) run_is
 
 pub returns-clause-grounds : goal.returns-clause-grounds

@@ -4,10 +4,9 @@ use Rattle.std.specs.Prelude.{Result, Ok, Err, MatchResult}
 use Rattle.hex.specs.Hex.{decode_of}
 use Rattle.hex.specs.declared.error.FromHexError.{FromHexError}
 use Rattle.hex.proofs.HexLemmas.{decode_of-ok, decode_sized-ok, decode_sized-twice}
-use Rattle.machine.specs.Contexts.{context_of}
 use Rattle.machine.specs.laws.Frame.{room_written, datagram_started}
 use Rattle.report.specs.Traces.{digits_of, HasNoDatagram}
-use Rattle.report.proofs.reporting.fill.Goals as goal
+use Rattle.report.proofs.reporting.start_frame.Goals as goal
 
 -- where decoding into a slice succeeded, the slice is what was decoded
 written : (decoded : Result (List ℕ) FromHexError) (new : List ℕ) (result : Result (Unit {0}) FromHexError) → result ≡ Ok tt → MatchResult decoded (λ bytes. (result ≡ Ok tt) × (new ≡ bytes)) (λ e. result ≡ Err e) → decoded ≡ Ok new
@@ -41,6 +40,3 @@ pub returns-then-n-gt-MAX_DATAGRAM-clause-refused : goal.returns-then-n-gt-MAX_D
 returns-then-n-gt-MAX_DATAGRAM-clause-refused c =
     let digits : digits_of c.args.hex ≡ c.as_bytes-digits.result.now = search rules in
     (refl, subst HasNoDatagram (sym digits) (too_many c.as_bytes-digits.result.now (omega (arith, c.if-n-gt-MAX_DATAGRAM))))
-
-pub returns-in-Ok-clause-context : goal.returns-in-Ok-clause-context
-returns-in-Ok-clause-context c = ap context_of c.start.ensures.context
