@@ -31,6 +31,7 @@ source_map() {
       number = substr($0, RSTART + 1)
       if (!(file in last)) read_texts(file)
       name = index(file, folder) == 1 ? substr(file, length(folder) + 1) : file
+      sub(/^[.]\//, "", name)
       gsub(/[ \t]/, "_", name)
       text = texts[file, number]
       gsub(/^[ \t]+|[ \t]+$/, "", text)
