@@ -9,6 +9,9 @@ use std::fs;
 use std::io::{self, BufWriter, Write};
 use std::rt::Files;
 
+/// The bytes of memory that are taken for the line of an error of a report. The longest one has fewer.
+const LINE: usize = 64;
+
 /// Returns the source map of a text, which has to be that of the program in a file, if there is one.
 pub(crate) fn map_of<'a, 't>(
     alloc: Global,
@@ -51,7 +54,9 @@ fn print_mapped<'a, R: Print + AllocGlobal, E: Write>(
 ) -> Result<u8, CommandError<'a>> {
     let map = map_of(rt.alloc(), lines, file)?;
     let mut out = Output::new(Vec::new(rt.alloc()));
-    let mut said = Vec::new(rt.alloc());
+    let Ok(mut said) = Vec::with_capacity(rt.alloc(), LINE) else {
+        return Err(CommandError::Memory);
+    };
     let status = report(rt.alloc(), ask, file, &mut out, &mut said);
     // a vector is full where memory runs out
     if out.has_failed() {
