@@ -142,6 +142,16 @@ def full_marks(count):
     return lines + [*chain(1, 9), "exit"]
 
 
+def offsets(count):
+    """Returns the lines of a program that keeps a pointer to the stack in its groups, and whose forks put another one there. Its offset
+    is a number of Fibonacci's, so that a hash by the golden ratio has the same leading bits for both."""
+    lines = ["mov r0, 0", "ldxdw r9, [r1+24]", "mov r1, 0", "mov r7, r10", "mov r8, r10", "add r8, 832040"]
+    lines += [f"stxdw [r10-{8 * (number + 1)}], r7" for number in range(count)]
+    for number in range(count):
+        lines += [f"jset r9, {1 << number}, +1", f"stxdw [r10-{8 * (number + 1)}], r8"]
+    return lines + ["mov r7, 0", "mov r8, 0", *chain(1, 9), "exit"]
+
+
 def shared_products(registers, count):
     """Returns the lines of a program whose forks multiply one of two intervals by a prime. Each interval begins with 0; of two paths
     neither has intervals that all contain the other's, and on all paths they leave out about as much together."""
@@ -195,6 +205,7 @@ def known_programs():
         "products of primes in two registers": products(2, 13),
         "lengths from other places": reaching(13),
         "marks whose word is full": full_marks(13),
+        "pointers to the stack whose offsets have one hash": offsets(13),
     }
 
 

@@ -25,7 +25,7 @@ abbrev pub common_margins_of : Margins → CommonMargins
 common_margins_of m = record { below = m.below; above = above_of m; total = m.total }
 
 abbrev pub common_of : StateSignature → CommonSignature
-common_of s = record { registers = s.registers; groups = s.groups; marks = s.marks; margins = common_margins_of s.margins; bounds = hash_bit s.bounds; links = common_links_of s.links }
+common_of s = record { registers = s.registers; groups = s.groups; marks = s.marks; margins = common_margins_of s.margins; values = hash_bit s.values; links = common_links_of s.links }
 
 -- ---- what two have in common: the bits that both have, and the least numbers; the bits for hashes are those of either
 
@@ -44,7 +44,7 @@ in_common c d = record {
   groups = bit_and c.groups d.groups;
   marks = common_marks c.marks d.marks;
   margins = least_margins c.margins d.margins;
-  bounds = bit_or c.bounds d.bounds;
+  values = bit_or c.values d.values;
   links = common_links c.links d.links;
 }
 
@@ -61,4 +61,4 @@ admits_links l k = nat_lt l.count k.count || is_among k.firsts l.firsts
 
 abbrev pub admits : CommonSignature → StateSignature → Bool
 admits c t = word_within c.registers t.registers && (word_within c.groups t.groups && (admits_margins c.margins t.margins
-    && ((nat_lt c.margins.total t.margins.total || is_among t.bounds c.bounds) && (marks_within c.marks t.marks && admits_links c.links t.links))))
+    && ((nat_lt c.margins.total t.margins.total || is_among t.values c.values) && (marks_within c.marks t.marks && admits_links c.links t.links))))

@@ -69,22 +69,24 @@ abbrev pub margins_of : {D : Type 0} → Operations D → List (AbstractValue D)
 margins_of ops [] = record { below = 0; total = 0 }
 margins_of ops (v ∷ values) = added_margins (value_margins ops v) (margins_of ops values)
 
--- what a number leaves out on either side, hashed
-abbrev pub hashed_bounds : Bounds → ℕ
-hashed_bounds b = (b.lo + (2 ^ 64 - 1 - b.hi) * 13787848793156543929 % 2 ^ 64) % 2 ^ 64
+-- two numbers, hashed
+abbrev pub hashed_pair : ℕ → ℕ → ℕ
+hashed_pair first second = (first + second * 13787848793156543929 % 2 ^ 64) % 2 ^ 64
 
-abbrev pub bounds_hash : {D : Type 0} → Operations D → AbstractValue D → ℕ
-bounds_hash ops Nothing = 0
-bounds_hash ops (Scalar x) = hashed_bounds (ops.bounds x)
-bounds_hash ops Ctx = 0
-bounds_hash ops (Stack k) = 0
-bounds_hash ops (Data anchor k) = 0
-bounds_hash ops End = 0
+-- A value, hashed: what a number leaves out on either side, or what a pointer is and its offset. Where one value covers another that
+-- leaves out as much, their anchors alone may differ.
+abbrev pub value_hash : {D : Type 0} → Operations D → AbstractValue D → ℕ
+value_hash ops Nothing = 0
+value_hash ops (Scalar x) = hashed_pair (ops.bounds x).lo (2 ^ 64 - 1 - (ops.bounds x).hi)
+value_hash ops Ctx = hashed_pair 1 0
+value_hash ops (Stack k) = hashed_pair 2 (cast_unsigned w32 k)
+value_hash ops (Data anchor k) = hashed_pair 3 (cast_unsigned w32 k)
+value_hash ops End = hashed_pair 4 0
 
--- the bounds of all numbers among values, hashed
-abbrev pub bounds_hashes : {D : Type 0} → Operations D → List (AbstractValue D) → ℕ
-bounds_hashes ops [] = 0
-bounds_hashes ops (v ∷ values) = (bounds_hash ops v + bounds_hashes ops values * 11400714819323198485 % 2 ^ 64) % 2 ^ 64
+-- all of some values, hashed
+abbrev pub values_hash : {D : Type 0} → Operations D → List (AbstractValue D) → ℕ
+values_hash ops [] = 0
+values_hash ops (v ∷ values) = (value_hash ops v + values_hash ops values * 11400714819323198485 % 2 ^ 64) % 2 ^ 64
 
 -- the first of the values before one that is at its anchor
 abbrev pub first_linked : {D : Type 0} → List (AbstractValue D) → ℕ → Option ℕ
@@ -120,7 +122,7 @@ state_signature ops a = record {
   groups = value_bits ops REGISTERS a.proved (drop REGISTERS a.registers);
   marks = mark_bits 0 (words_of a.marks.cells);
   margins = margins_of ops a.registers;
-  bounds = bounds_hashes ops a.registers;
+  values = values_hash ops a.registers;
   links = state_links a.registers;
 }
 
@@ -139,8 +141,8 @@ above_of m = m.total - m.below
 abbrev pub margins_within : Margins → Margins → Bool
 margins_within m n = nat_le m.below n.below && nat_le (above_of m) (above_of n)
 
--- All bits of a signature are bits of another one, of a state whose values leave out as many words or more and whose numbers have the
--- same bounds where it is as many, and that has more links or the same.
+-- All bits of a signature are bits of another one, of a state whose values leave out as many words or more and have the same hash where
+-- it is as many, and that has more links or the same.
 abbrev pub lies_within : StateSignature → StateSignature → Bool
 lies_within s t = word_within s.registers t.registers && (word_within s.groups t.groups && (margins_within s.margins t.margins
-    && (((s.bounds == t.bounds) || nat_lt s.margins.total t.margins.total) && (marks_within s.marks t.marks && lie_within s.links t.links))))
+    && (((s.values == t.values) || nat_lt s.margins.total t.margins.total) && (marks_within s.marks t.marks && lie_within s.links t.links))))

@@ -22,7 +22,7 @@ pub(crate) struct CommonMargins {
     total: u128,
 }
 
-/// What some signatures have in common: the bits that each of them has, the least of their margins, a bit for the bounds of each,
+/// What some signatures have in common: the bits that each of them has, the least of their margins, a bit for the values of each,
 /// by their hash, and what their links have.
 /// See docs/DESIGN.md, "What distinguishes a kept state".
 #[derive(Clone, Copy, Debug, PartialEq, Eq)]
@@ -31,7 +31,7 @@ pub struct CommonSignature {
     groups: u64,
     marks: MarkBits,
     margins: CommonMargins,
-    bounds: u128,
+    values: u128,
     links: CommonLinks,
 }
 
@@ -129,7 +129,7 @@ impl CommonSignature {
             groups: signature.groups,
             marks: signature.marks,
             margins: CommonMargins::of(signature.margins),
-            bounds: hash_bit(signature.bounds),
+            values: hash_bit(signature.values),
             links: CommonLinks::of(signature.links),
         }
     }
@@ -150,7 +150,7 @@ impl CommonSignature {
             groups: self.groups & other.groups,
             marks: self.marks.in_common(other.marks),
             margins: self.margins.least(other.margins),
-            bounds: self.bounds | other.bounds,
+            values: self.values | other.values,
             links: self.links.in_common(other.links),
         }
     }
@@ -162,7 +162,7 @@ impl CommonSignature {
         self.registers & other.registers == self.registers
             && self.groups & other.groups == self.groups
             && self.margins.admit(other.margins)
-            && (self.margins.total < other.margins.total || is_among(other.bounds, self.bounds))
+            && (self.margins.total < other.margins.total || is_among(other.values, self.values))
             && self.marks.lie_within(other.marks)
             && self.links.admit(other.links)
     }

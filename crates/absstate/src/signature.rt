@@ -3,7 +3,7 @@
 ghost use Rattle.std.specs.Prelude.{◌≡◌, ◌≤◌, ◌+◌, length};
 ghost use Rattle.absstate.specs.AbstractStates.{proved_of};
 ghost use Rattle.absstate.specs.MarkWords.{words_of};
-ghost use Rattle.absstate.specs.Signatures.{hashed_bit, number_bit, proved_bit, value_bit, value_bits, mark_bits, hashed_bounds, bounds_hash, bounds_hashes};
+ghost use Rattle.absstate.specs.Signatures.{hashed_bit, number_bit, proved_bit, value_bit, value_bits, mark_bits, hashed_pair, value_hash, values_hash};
 
 use crate::abstract_state::{AbsState, AbstractValue, Anchor, REGISTERS};
 use crate::covering::registers_of;
@@ -20,8 +20,8 @@ pub(crate) struct MarkBits {
 }
 
 /// What is compared of states first: words that have a bit for each register that is known exactly, for each such group, and for
-/// marks, and one for each place past whose anchor something is proved; how many words all values leave out; the bounds of all
-/// numbers, hashed; and which places are at the anchor of an earlier one.
+/// marks, and one for each place past whose anchor something is proved; how many words all values leave out; all values, hashed, by
+/// their bounds, kinds and offsets; and which places are at the anchor of an earlier one.
 /// See docs/DESIGN.md, "What distinguishes a kept state".
 #[derive(Clone, Copy, Debug, PartialEq, Eq)]
 pub struct StateSignature {
@@ -29,7 +29,7 @@ pub struct StateSignature {
     pub(crate) groups: u64,
     pub(crate) marks: MarkBits,
     pub(crate) margins: Margins,
-    pub(crate) bounds: u64,
+    pub(crate) values: u64,
     pub(crate) links: Links,
 }
 
@@ -120,35 +120,39 @@ fn mark_bits(index: usize, words: &[u64]) -> MarkBits
     }
 }
 
-/// Returns both bounds of a number, hashed.
-fn hashed_bounds(bounds: Bounds) -> u64
-    ensures { result ≡ hashed_bounds bounds }
+/// Returns two numbers, hashed.
+fn hashed_pair(first: u64, second: u64) -> u64
+    ensures { result ≡ hashed_pair first second }
 {
-    let above = u64::MAX - bounds.hi;
-    bounds
-        .lo
-        .wrapping_add(above.wrapping_mul(13_787_848_793_156_543_929))
+    first.wrapping_add(second.wrapping_mul(13_787_848_793_156_543_929))
 }
 
-/// Returns the bounds of a number among values, hashed; 0 for any other value.
-fn bounds_hash<D: Domain>(value: AbstractValue<D>) -> u64
-    ensures { result ≡ bounds_hash D.ops value }
+/// Returns a value, hashed: what a number leaves out on either side, or what a pointer is and its offset.
+fn value_hash<D: Domain>(value: AbstractValue<D>) -> u64
+    ensures { result ≡ value_hash D.ops value }
 {
     match value {
-        AbstractValue::Scalar(number) => hashed_bounds(number.bounds()),
-        _ => 0,
+        AbstractValue::Nothing => 0,
+        AbstractValue::Scalar(number) => {
+            let bounds = number.bounds();
+            hashed_pair(bounds.lo, u64::MAX - bounds.hi)
+        }
+        AbstractValue::Ctx => hashed_pair(1, 0),
+        AbstractValue::Stack(offset) => hashed_pair(2, u64::from(offset.cast_unsigned())),
+        AbstractValue::Data { offset, .. } => hashed_pair(3, u64::from(offset.cast_unsigned())),
+        AbstractValue::End => hashed_pair(4, 0),
     }
 }
 
-/// Returns the bounds of all numbers among values, hashed.
-fn bounds_hashes<D: Domain>(values: &[AbstractValue<D>]) -> u64
-    ensures { result ≡ bounds_hashes D.ops values.now }
+/// Returns all of some values, hashed.
+fn values_hash<D: Domain>(values: &[AbstractValue<D>]) -> u64
+    ensures { result ≡ values_hash D.ops values.now }
 {
     match values {
         [] => 0,
         [first, values @ ..] => {
-            let rest = bounds_hashes(values);
-            bounds_hash(*first).wrapping_add(rest.wrapping_mul(11_400_714_819_323_198_485))
+            let rest = values_hash(values);
+            value_hash(*first).wrapping_add(rest.wrapping_mul(11_400_714_819_323_198_485))
         }
     }
 }
@@ -181,14 +185,14 @@ impl StateSignature {
     ghost use Rattle.absstate.specs.Signatures.{lies_within};
 
     /// Returns whether all bits of this signature are bits of another one, of a state whose values leave out as many words or
-    /// more and whose numbers have the same bounds where it is as many, and that has more links or the same.
+    /// more and have the same hash where it is as many, and that has more links or the same.
     pub fn lies_within(self, other: StateSignature) -> bool
         ensures { result ≡ lies_within self other }
     {
         self.registers & other.registers == self.registers
             && self.groups & other.groups == self.groups
             && self.margins.lie_within(other.margins)
-            && (self.bounds == other.bounds || self.margins.total < other.margins.total)
+            && (self.values == other.values || self.margins.total < other.margins.total)
             && self.marks.lie_within(other.marks)
             && self.links.lie_within(other.links)
     }
@@ -211,7 +215,7 @@ impl<D: Domain> AbsState<D> {
             groups: value_bits(REGISTERS, self, groups),
             marks: mark_bits(0, words),
             margins: margins_of(values),
-            bounds: bounds_hashes(values),
+            values: values_hash(values),
             links: links_of(values),
         }
     }

@@ -41,7 +41,7 @@ record Admits (c : CommonSignature) (t : StateSignature) : Type 0 where
   pub two : IsWithin c.marks.two t.marks.two
   pub below : c.margins.below ≤ t.margins.below
   pub above : c.margins.above ≤ above_of t.margins
-  pub bounds : (c.margins.total < t.margins.total) ⊎ IsWithin (hash_bit t.bounds) c.bounds
+  pub values : (c.margins.total < t.margins.total) ⊎ IsWithin (hash_bit t.values) c.values
   pub links : (c.links.count < t.links.count) ⊎ IsWithin (hash_bit t.links.firsts) c.links.firsts
 
 either : (x y : Bool) → (x || y) ≡ true → (x ≡ true) ⊎ (y ≡ true)
@@ -56,7 +56,7 @@ test_of a b h = same_number (bit_and a b) a h
 
 module _ (c : CommonSignature) (t : StateSignature) where
   abbrev by_bounds : Bool
-  by_bounds = nat_lt c.margins.total t.margins.total || is_among t.bounds c.bounds
+  by_bounds = nat_lt c.margins.total t.margins.total || is_among t.values c.values
 
   by_parts : Admits c t → admits c t ≡ true
   by_parts parts =
@@ -65,8 +65,8 @@ module _ (c : CommonSignature) (t : StateSignature) where
       (both_true (admits_margins c.margins t.margins) _
       (both_true (nat_le c.margins.below t.margins.below) (nat_le c.margins.above (above_of t.margins)) (le-leb c.margins.below t.margins.below parts.below) (le-leb c.margins.above (above_of t.margins) parts.above))
       (both_true by_bounds _
-      (⊎_elim (λ less. or_left (nat_lt c.margins.total t.margins.total) (is_among t.bounds c.bounds) (lt-ltb c.margins.total t.margins.total less))
-      (λ among. or_right (nat_lt c.margins.total t.margins.total) (is_among t.bounds c.bounds) (test_of (hash_bit t.bounds) c.bounds among)) parts.bounds)
+      (⊎_elim (λ less. or_left (nat_lt c.margins.total t.margins.total) (is_among t.values c.values) (lt-ltb c.margins.total t.margins.total less))
+      (λ among. or_right (nat_lt c.margins.total t.margins.total) (is_among t.values c.values) (test_of (hash_bit t.values) c.values among)) parts.values)
       (both_true (marks_within c.marks t.marks) (admits_links c.links t.links)
       (both_true (word_within c.marks.any t.marks.any) (word_within c.marks.two t.marks.two) (test_of c.marks.any t.marks.any parts.any) (test_of c.marks.two t.marks.two parts.two))
       (⊎_elim (λ fewer. or_left (nat_lt c.links.count t.links.count) (is_among t.links.firsts c.links.firsts) (lt-ltb c.links.count t.links.count fewer))
@@ -87,8 +87,8 @@ module _ (c : CommonSignature) (t : StateSignature) where
         two = within_of c.marks.two t.marks.two (rest_of_and (word_within c.marks.any t.marks.any) (word_within c.marks.two t.marks.two) both);
         below = leb-true c.margins.below t.margins.below (first_of_and (nat_le c.margins.below t.margins.below) (nat_le c.margins.above (above_of t.margins)) sides);
         above = leb-true c.margins.above (above_of t.margins) (rest_of_and (nat_le c.margins.below t.margins.below) (nat_le c.margins.above (above_of t.margins)) sides);
-        bounds = ⊎_elim (λ less. inl (ltb-true c.margins.total t.margins.total less)) (λ among. inr (within_of (hash_bit t.bounds) c.bounds among))
-            (either (nat_lt c.margins.total t.margins.total) (is_among t.bounds c.bounds) (first_of_and by_bounds _ bounds));
+        values = ⊎_elim (λ less. inl (ltb-true c.margins.total t.margins.total less)) (λ among. inr (within_of (hash_bit t.values) c.values among))
+            (either (nat_lt c.margins.total t.margins.total) (is_among t.values c.values) (first_of_and by_bounds _ bounds));
         links = ⊎_elim (λ fewer. inl (ltb-true c.links.count t.links.count fewer)) (λ among. inr (within_of (hash_bit t.links.firsts) c.links.firsts among))
             (either (nat_lt c.links.count t.links.count) (is_among t.links.firsts c.links.firsts) (rest_of_and (marks_within c.marks t.marks) (admits_links c.links t.links) marks));
       }
@@ -100,7 +100,7 @@ same_hash m n same = ap (λ (k : ℕ). bit_and (hash_bit n) (hash_bit k)) same �
 -- what is admitted by what one signature has, where that one lies within it
 pub admits_one : (s t : StateSignature) → lies_within s t ≡ true → admits (common_of s) t ≡ true
 admits_one s t e =
-    let ranked = (s.bounds == t.bounds) || nat_lt s.margins.total t.margins.total in
+    let ranked = (s.values == t.values) || nat_lt s.margins.total t.margins.total in
     let groups = rest_of_and (word_within s.registers t.registers) _ e in
     let margins = rest_of_and (word_within s.groups t.groups) _ groups in
     let bounds = rest_of_and (margins_within s.margins t.margins) _ margins in
@@ -108,10 +108,10 @@ admits_one s t e =
     both_true (word_within s.registers t.registers) _ (first_of_and (word_within s.registers t.registers) _ e)
     (both_true (word_within s.groups t.groups) _ (first_of_and (word_within s.groups t.groups) _ groups)
     (both_true (margins_within s.margins t.margins) _ (first_of_and (margins_within s.margins t.margins) _ margins)
-    (both_true (nat_lt s.margins.total t.margins.total || is_among t.bounds (hash_bit s.bounds)) _
-    (⊎_elim (λ same. or_right (nat_lt s.margins.total t.margins.total) (is_among t.bounds (hash_bit s.bounds)) (test_of (hash_bit t.bounds) (hash_bit s.bounds) (same_hash s.bounds t.bounds (eqb-true s.bounds t.bounds same))))
-    (λ less. or_left (nat_lt s.margins.total t.margins.total) (is_among t.bounds (hash_bit s.bounds)) less)
-    (either (s.bounds == t.bounds) (nat_lt s.margins.total t.margins.total) (first_of_and ranked _ bounds)))
+    (both_true (nat_lt s.margins.total t.margins.total || is_among t.values (hash_bit s.values)) _
+    (⊎_elim (λ same. or_right (nat_lt s.margins.total t.margins.total) (is_among t.values (hash_bit s.values)) (test_of (hash_bit t.values) (hash_bit s.values) (same_hash s.values t.values (eqb-true s.values t.values same))))
+    (λ less. or_left (nat_lt s.margins.total t.margins.total) (is_among t.values (hash_bit s.values)) less)
+    (either (s.values == t.values) (nat_lt s.margins.total t.margins.total) (first_of_and ranked _ bounds)))
     (both_true (marks_within s.marks t.marks) _ (first_of_and (marks_within s.marks t.marks) (lie_within s.links t.links) marks)
     (⊎_elim (λ fewer. or_left (nat_lt s.links.count t.links.count) (is_among t.links.firsts (hash_bit s.links.firsts)) fewer)
     (λ same. or_right (nat_lt s.links.count t.links.count) (is_among t.links.firsts (hash_bit s.links.firsts)) (test_of (hash_bit t.links.firsts) (hash_bit s.links.firsts) (same_hash s.links.firsts t.links.firsts (eqb-true s.links.firsts t.links.firsts same))))
@@ -126,9 +126,9 @@ admits_either c d t either = record {
   two = both_within c.marks.two d.marks.two t.marks.two (⊎_elim (λ p. inl p.two) (λ p. inr p.two) either);
   below = ⊎_elim (λ p. omega (arith, p.below)) (λ p. omega (arith, p.below)) either;
   above = ⊎_elim (λ p. omega (arith, p.above)) (λ p. omega (arith, p.above)) either;
-  bounds = ⊎_elim
-      (λ p. ⊎_elim (λ less. inl (omega (arith, less))) (λ h. inr (within_either (hash_bit t.bounds) c.bounds d.bounds (inl h))) p.bounds)
-      (λ p. ⊎_elim (λ less. inl (omega (arith, less))) (λ h. inr (within_either (hash_bit t.bounds) c.bounds d.bounds (inr h))) p.bounds)
+  values = ⊎_elim
+      (λ p. ⊎_elim (λ less. inl (omega (arith, less))) (λ h. inr (within_either (hash_bit t.values) c.values d.values (inl h))) p.values)
+      (λ p. ⊎_elim (λ less. inl (omega (arith, less))) (λ h. inr (within_either (hash_bit t.values) c.values d.values (inr h))) p.values)
       either;
   links = ⊎_elim
       (λ p. ⊎_elim (λ fewer. inl (omega (arith, fewer))) (λ h. inr (within_either (hash_bit t.links.firsts) c.links.firsts d.links.firsts (inl h))) p.links)

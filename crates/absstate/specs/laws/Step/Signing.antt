@@ -10,7 +10,7 @@ use Rattle.interval.specs.Domains.{Operations, AreSound, LieBetween}
 use Rattle.interval.specs.declared.domain.Bounds.{Bounds}
 use Rattle.absstate.specs.Covers.{covers_places, proves_less, covers_anchor, covers_value, covers_values, same_int, covers}
 use Rattle.absstate.specs.MarkWords.{words_of, are_within}
-use Rattle.absstate.specs.Signatures.{hashed_bit, number_bit, proved_bit, value_bit, value_bits, marked_with, mark_bits, value_margins, added_margins, margins_of, hashed_bounds, bounds_hash, bounds_hashes, lie_within, state_signature, word_within, marks_within, above_of, margins_within, lies_within}
+use Rattle.absstate.specs.Signatures.{hashed_bit, number_bit, proved_bit, value_bit, value_bits, marked_with, mark_bits, value_margins, added_margins, margins_of, hashed_pair, value_hash, values_hash, lie_within, state_signature, word_within, marks_within, above_of, margins_within, lies_within}
 use Rattle.absstate.specs.AbstractStates.{proved_from}
 use Rattle.absstate.specs.laws.Step.Covering.{int_same}
 use Rattle.absstate.specs.laws.Step.Links.{links_within, linked_alike}
@@ -101,7 +101,11 @@ record AreRanked (m : Margins) (hash : ℕ) (n : Margins) (other : ℕ) : Type 0
 abbrev margins_between : Bounds → Margins
 margins_between x = record { below = x.lo; total = x.lo + (2 ^ 64 - 1 - x.hi) }
 
-number_ranked : (x y : Bounds) → LieBetween x y → AreRanked (margins_between x) (hashed_bounds x) (margins_between y) (hashed_bounds y)
+-- and its hash
+abbrev bounds_hash : Bounds → ℕ
+bounds_hash x = hashed_pair x.lo (2 ^ 64 - 1 - x.hi)
+
+number_ranked : (x y : Bounds) → LieBetween x y → AreRanked (margins_between x) (bounds_hash x) (margins_between y) (bounds_hash y)
 number_ranked x y between = record {
   first = omega arith;
   second = omega arith;
@@ -109,17 +113,17 @@ number_ranked x y between = record {
   above = omega (arith, between.2);
   same = λ below total.
       let above : 2 ^ 64 - 1 - x.hi ≡ 2 ^ 64 - 1 - y.hi = omega (arith, below, total) in
-      ap₂ (λ (m n : ℕ). (m + n * 13787848793156543929 % 2 ^ 64) % 2 ^ 64) below above;
+      ap₂ hashed_pair below above;
 }
 
 -- a pointer leaves out all words
 abbrev every_word : Margins
 every_word = record { below = 2 ^ 64; total = 2 * 2 ^ 64 }
 
-known_ranked : AreRanked every_word 0 every_word 0
-known_ranked = record { first = omega arith; second = omega arith; below = omega arith; above = omega arith; same = λ below total. refl }
+known_ranked : (hash other : ℕ) → hash ≡ other → AreRanked every_word hash every_word other
+known_ranked hash other e = record { first = omega arith; second = omega arith; below = omega arith; above = omega arith; same = λ below total. e }
 
--- nothing leaves out less than any values, whose numbers have no hash where they leave out nothing
+-- nothing leaves out less than any values, whose hash is 0 where they leave out nothing
 nothing_ranked : (n : Margins) (hash : ℕ) → n.below ≤ n.total → (n.total ≡ 0 → hash ≡ 0) → AreRanked (record { below = 0; total = 0 }) 0 n hash
 nothing_ranked n hash small none = record { first = omega arith; second = small; below = omega arith; above = omega arith; same = λ below total. sym (none (sym total)) }
 
@@ -136,18 +140,22 @@ module _ {D : Type 0} (ops : Operations D) where
   all_below_total [] = omega arith
   all_below_total (v ∷ values) = omega (arith, below_total v, all_below_total values)
 
-  without_hash : (v : AbstractValue D) → (value_margins ops v).total ≡ 0 → bounds_hash ops v ≡ 0
+  without_hash : (v : AbstractValue D) → (value_margins ops v).total ≡ 0 → value_hash ops v ≡ 0
+  without_hash Nothing none = refl
   without_hash (Scalar x) none =
       let below : (ops.bounds x).lo ≡ 0 = omega (arith, none) in
       let above : 2 ^ 64 - 1 - (ops.bounds x).hi ≡ 0 = omega (arith, none) in
-      ap₂ (λ (m n : ℕ). (m + n * 13787848793156543929 % 2 ^ 64) % 2 ^ 64) below above
-  without_hash v none = refl
+      ap₂ hashed_pair below above
+  without_hash Ctx none = omega (arith, none)
+  without_hash (Stack k) none = omega (arith, none)
+  without_hash (Data anchor k) none = omega (arith, none)
+  without_hash End none = omega (arith, none)
 
-  all_without_hash : (values : List (AbstractValue D)) → (margins_of ops values).total ≡ 0 → bounds_hashes ops values ≡ 0
+  all_without_hash : (values : List (AbstractValue D)) → (margins_of ops values).total ≡ 0 → values_hash ops values ≡ 0
   all_without_hash [] none = refl
   all_without_hash (v ∷ values) none =
-      let first : bounds_hash ops v ≡ 0 = without_hash v (omega (arith, none)) in
-      let rest : bounds_hashes ops values ≡ 0 = all_without_hash values (omega (arith, none)) in
+      let first : value_hash ops v ≡ 0 = without_hash v (omega (arith, none)) in
+      let rest : values_hash ops values ≡ 0 = all_without_hash values (omega (arith, none)) in
       ap₂ (λ (m n : ℕ). (m + n * 11400714819323198485 % 2 ^ 64) % 2 ^ 64) first rest
 
 both_ranked : (m n m' n' : Margins) (hash other rest rest' : ℕ) → AreRanked m hash n other → AreRanked m' rest n' rest'
@@ -176,9 +184,9 @@ ranked_test m n hash other ranked =
 
 module _ (s t : StateSignature) where
   abbrev ranked_alike : Bool
-  ranked_alike = (s.bounds == t.bounds) || nat_lt s.margins.total t.margins.total
+  ranked_alike = (s.values == t.values) || nat_lt s.margins.total t.margins.total
 
-  within_by_parts : IsWithin s.registers t.registers → IsWithin s.groups t.groups → AreBitsWithin s.marks t.marks → AreRanked s.margins s.bounds t.margins t.bounds
+  within_by_parts : IsWithin s.registers t.registers → IsWithin s.groups t.groups → AreBitsWithin s.marks t.marks → AreRanked s.margins s.values t.margins t.values
       → lie_within s.links t.links ≡ true → lies_within s t ≡ true
   within_by_parts registers groups marks ranked links =
       both_true (word_within s.registers t.registers) _ (same_number (bit_and s.registers t.registers) s.registers registers)
@@ -186,7 +194,7 @@ module _ (s t : StateSignature) where
       (both_true (margins_within s.margins t.margins) _
       (both_true (nat_le s.margins.below t.margins.below) (nat_le (above_of s.margins) (above_of t.margins))
       (le-leb s.margins.below t.margins.below ranked.below) (le-leb (above_of s.margins) (above_of t.margins) ranked.above))
-      (both_true ranked_alike _ (ranked_test s.margins t.margins s.bounds t.bounds ranked)
+      (both_true ranked_alike _ (ranked_test s.margins t.margins s.values t.values ranked)
       (both_true (marks_within s.marks t.marks) (lie_within s.links t.links)
       (both_true (word_within s.marks.any t.marks.any) (word_within s.marks.two t.marks.two)
       (same_number (bit_and s.marks.any t.marks.any) s.marks.any marks.any) (same_number (bit_and s.marks.two t.marks.two) s.marks.two marks.two))
@@ -217,20 +225,22 @@ module _ {D : Type 0} (ops : Operations D) (Member : D → ℕ → Type 0) (soun
       (value_within index v u (first_of_and (covers_value ops a b v u) (covers_values ops a b vs us) e))
       (values_within (suc index) vs us (rest_of_and (covers_value ops a b v u) (covers_values ops a b vs us) e))
 
-  value_ranked : (v u : AbstractValue D) → covers_value ops a b v u ≡ true → AreRanked (value_margins ops v) (bounds_hash ops v) (value_margins ops u) (bounds_hash ops u)
-  value_ranked Nothing u e = nothing_ranked (value_margins ops u) (bounds_hash ops u) (below_total ops u) (without_hash ops u)
+  value_ranked : (v u : AbstractValue D) → covers_value ops a b v u ≡ true → AreRanked (value_margins ops v) (value_hash ops v) (value_margins ops u) (value_hash ops u)
+  value_ranked Nothing u e = nothing_ranked (value_margins ops u) (value_hash ops u) (below_total ops u) (without_hash ops u)
   value_ranked (Scalar x) (Scalar y) e = number_ranked (ops.bounds x) (ops.bounds y) (sound.covered_between x y e)
-  value_ranked Ctx Ctx e = known_ranked
-  value_ranked (Stack k) (Stack l) e = known_ranked
-  value_ranked (Data x k) (Data y l) e = known_ranked
-  value_ranked End End e = known_ranked
+  value_ranked Ctx Ctx e = known_ranked (hashed_pair 1 0) (hashed_pair 1 0) refl
+  value_ranked (Stack k) (Stack l) e = let hash : ℤ → ℕ = λ n. hashed_pair 2 (cast_unsigned w32 n) in known_ranked (hash k) (hash l) (ap hash (int_same k l e))
+  value_ranked (Data x k) (Data y l) e =
+      let hash : ℤ → ℕ = λ n. hashed_pair 3 (cast_unsigned w32 n) in
+      known_ranked (hash k) (hash l) (ap hash (int_same k l (first_of_and (same_int k l) (covers_anchor a b x y) e)))
+  value_ranked End End e = known_ranked (hashed_pair 4 0) (hashed_pair 4 0) refl
   value_ranked v u e = absurd cc
 
-  values_ranked : (vs us : List (AbstractValue D)) → covers_values ops a b vs us ≡ true → AreRanked (margins_of ops vs) (bounds_hashes ops vs) (margins_of ops us) (bounds_hashes ops us)
-  values_ranked [] us e = nothing_ranked (margins_of ops us) (bounds_hashes ops us) (all_below_total ops us) (all_without_hash ops us)
+  values_ranked : (vs us : List (AbstractValue D)) → covers_values ops a b vs us ≡ true → AreRanked (margins_of ops vs) (values_hash ops vs) (margins_of ops us) (values_hash ops us)
+  values_ranked [] us e = nothing_ranked (margins_of ops us) (values_hash ops us) (all_below_total ops us) (all_without_hash ops us)
   values_ranked (v ∷ vs) [] e = absurd cc
   values_ranked (v ∷ vs) (u ∷ us) e =
-      both_ranked (value_margins ops v) (value_margins ops u) (margins_of ops vs) (margins_of ops us) (bounds_hash ops v) (bounds_hash ops u) (bounds_hashes ops vs) (bounds_hashes ops us)
+      both_ranked (value_margins ops v) (value_margins ops u) (margins_of ops vs) (margins_of ops us) (value_hash ops v) (value_hash ops u) (values_hash ops vs) (values_hash ops us)
       (value_ranked v u (first_of_and (covers_value ops a b v u) (covers_values ops a b vs us) e))
       (values_ranked vs us (rest_of_and (covers_value ops a b v u) (covers_values ops a b vs us) e))
 

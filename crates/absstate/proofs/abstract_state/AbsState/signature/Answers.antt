@@ -1,5 +1,5 @@
 use Rattle.std.proofs.Common.{◌≡◌, ap, ◌∙◌, ℕ, List, length, take, drop, refl}
-use Rattle.absstate.specs.Signatures.{links_among, state_links, mark_bits, margins_of, value_bits, bounds_hashes}
+use Rattle.absstate.specs.Signatures.{links_among, state_links, mark_bits, margins_of, value_bits, values_hash}
 use Rattle.absstate.specs.declared.abstract_state.TheConstants.{REGISTERS, VALUES}
 use Rattle.absstate.specs.declared.abstract_state.AbstractValue.{AbstractValue}
 use Rattle.absstate.specs.declared.links.Links.{Links}
@@ -10,7 +10,7 @@ use Rattle.absstate.proofs.abstract_state.AbsState.signature.Goals as goal
 
 -- signatures of the same parts
 abbrev made : ℕ → ℕ → MarkBits → Margins → ℕ → Links → StateSignature
-made r g m w b l = record { registers = r; groups = g; marks = m; margins = w; bounds = b; links = l }
+made r g m w b l = record { registers = r; groups = g; marks = m; margins = w; values = b; links = l }
 
 of_parts : {r r' g g' b b' : ℕ} {m m' : MarkBits} {w w' : Margins} {l l' : Links} → r ≡ r' → g ≡ g' → m ≡ m' → w ≡ w' → b ≡ b' → l ≡ l' → made r g m w b l ≡ made r' g' m' w' b' l'
 of_parts r g m w b l = rw (r, g, m, w, b, l) refl
@@ -29,5 +29,5 @@ returns g c =
     (c.value_bits-2.ensures ∙ ap (value_bits g.D.Domain.ops REGISTERS c.args.self.now.proved) (c.split_at.ensures.back ∙ ap (drop REGISTERS) values))
     (c.mark_bits.ensures ∙ ap (mark_bits 0) c.requires)
     (c.margins_of.ensures.value ∙ ap (margins_of g.D.Domain.ops) values)
-    (c.bounds_hashes.ensures ∙ ap (bounds_hashes g.D.Domain.ops) values)
+    (c.values_hash.ensures ∙ ap (values_hash g.D.Domain.ops) values)
     (c.links_of.ensures ∙ all_links _ _ count ∙ ap state_links values)
