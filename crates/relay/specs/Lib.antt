@@ -3,6 +3,7 @@ pub mod Amplification
 pub mod ByPrograms
 pub mod Confinement
 pub mod Errors
+pub mod EventRuns
 pub mod Found
 pub mod Grounds
 pub mod Harmless

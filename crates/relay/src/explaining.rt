@@ -8,7 +8,8 @@ ghost use Rattle.machine.specs.Tracing.{EndsWith};
 ghost use Rattle.programs.specs.Runs.{run_for};
 ghost use Rattle.relay.specs.ByPrograms.{Programs, program_for};
 ghost use Rattle.relay.specs.Found.{held_for};
-ghost use Rattle.relay.specs.Grounds.{reason_by, side_of};
+ghost use Rattle.relay.specs.EventRuns.{side_of};
+ghost use Rattle.relay.specs.Grounds.{reason_by};
 ghost use Rattle.relay.specs.Reasons.{exit_slot, missing_to_peer, reason_of_datagram, reason_of_event, unsent_by_run, HoldsAtExit};
 ghost use Rattle.relay.specs.ReasonTexts.{line_ending};
 ghost use Rattle.relay.specs.Replays.{answer_text};
@@ -145,7 +146,8 @@ impl Relay {
     ghost use Rattle.std.specs.Prelude.{◌≡◌};
     ghost use Rattle.control.specs.declared.config.Config.{Config};
     ghost use Rattle.events.specs.Reading.{event_in};
-    ghost use Rattle.relay.specs.Grounds.{grounds_of_line, run_of_event, IsTraced};
+    ghost use Rattle.relay.specs.EventRuns.{run_of_event, IsTraced};
+    ghost use Rattle.relay.specs.Grounds.{grounds_of_line};
 
     /// Traces the run that the step of the event of a line makes, if it is a datagram's, and returns its side and its end. The
     /// steps are reported to the sink, and it writes over the room.

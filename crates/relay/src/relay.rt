@@ -91,7 +91,8 @@ impl Relay {
     ghost use Rattle.machine.specs.Contents.{datagram_of};
     ghost use Rattle.rules.specs.Answers.{sending_of_answer, LiesInRoom};
     ghost use Rattle.relay.specs.Found.{disposition_of_found, disposition_of_passing, sending_of_found, reply_of_passing, HasRoomFor};
-    ghost use Rattle.relay.specs.Grounds.{grounds_of, run_of_datagram};
+    ghost use Rattle.relay.specs.EventRuns.{run_of_datagram};
+    ghost use Rattle.relay.specs.Grounds.{grounds_of};
     ghost use Rattle.machine.specs.Tracing.{EndsWith, Reports};
     ghost use Rattle.relay.specs.Relays.{state_of, datagram_at};
     ghost use Rattle.relay.specs.Shipped.{AreShipped};

@@ -4,7 +4,7 @@ use Rattle.machine.specs.laws.Frame.{room_written}
 use Rattle.events.specs.Events.{Event, Datagram}
 use Rattle.events.specs.Parsing.{event_of}
 use Rattle.events.specs.Reading.{event_in}
-use Rattle.relay.specs.Grounds.{run_of_datagram, run_of_event, IsTraced}
+use Rattle.relay.specs.EventRuns.{run_of_datagram, run_of_event, IsTraced}
 use Rattle.relay.proofs.relay.Relay.trace_line.Goals as goal
 
 pub returns-in-Some-Datagram-clause-traced : goal.returns-in-Some-Datagram-clause-traced

@@ -9,7 +9,7 @@ use Rattle.programs.specs.Runs.{run_for}
 use Rattle.semantics.specs.Runs.{Run}
 use Rattle.relay.specs.ByPrograms.{Programs, program_for}
 use Rattle.relay.specs.Found.{held_for}
-use Rattle.relay.specs.Grounds.{run_of_datagram}
+use Rattle.relay.specs.EventRuns.{run_of_datagram}
 use Rattle.relay.specs.Relays.{datagram_at}
 use Rattle.relay.proofs.LiveSlots.{answers_for}
 use Rattle.relay.proofs.relay.Relay.traced.Goals as goal
