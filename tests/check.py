@@ -9,8 +9,10 @@ import sys
 import threading
 
 from lib.program import run_parts
-from lib.rules import ERROR_CODE, message, read
-from lib.server import USER, Client, Server, run, udp_socket, wanted
+from lib.rules import (
+    ALLOCATE, BINDING as BINDING_REQUEST, CREATE_PERMISSION, DATA, DATA_INDICATION, ERROR_CODE, LIFETIME, NONCE, REALM, REFRESH,
+    SEND, USERNAME, XOR_MAPPED_ADDRESS, XOR_PEER_ADDRESS, XOR_RELAYED_ADDRESS, address_in, address_value, message, read)
+from lib.server import LOOPBACK, USER, Client, Server, address_of, run, udp_socket, wanted
 
 # how long a step took, in the lines of a check
 TOOK = re.compile(r"\d+\.\d ms")
@@ -102,6 +104,49 @@ def others():
         yield from wanted("nobody answers", checked(bound.getsockname()[1]), (1, "", "no answer to Binding\n"))
 
 
+def answers_of(request, client, relayed):
+    """The class of the response to a request of a check, and its attributes: an Allocate request without a user is answered 401."""
+    tx = request.transaction_id
+    if request.kind == ALLOCATE and request.first(USERNAME) is None:
+        return 0x0110, [(ERROR_CODE, bytes([0, 0, 4, 1])), (REALM, b"r"), (NONCE, b"n")]
+    return 0x0100, {
+        BINDING_REQUEST: [(XOR_MAPPED_ADDRESS, address_value((LOOPBACK, client[1]), tx))],
+        ALLOCATE: [(XOR_RELAYED_ADDRESS, address_value(address_of(relayed), tx)), (LIFETIME, bytes([0, 0, 2, 88]))],
+        CREATE_PERMISSION: [],
+        REFRESH: [],
+    }[request.kind]
+
+
+def behind_nat():
+    """Yields what a check says otherwise where its datagram to the relayed address has another port than its requests, as a NAT
+    gives it one (RFC 4787, section 4.1): data to that port alone comes to it."""
+    mapped = LOOPBACK, 7
+    with udp_socket() as server, udp_socket() as relayed:
+        def serve():
+            kind = None
+            while kind != REFRESH:
+                datagram, client = server.recvfrom(2_000)
+                request = read(datagram)
+                kind = request.kind
+                if kind == SEND:
+                    if address_in(request.first(XOR_PEER_ADDRESS), request.transaction_id) == mapped:
+                        relayed.sendto(request.first(DATA), client)
+                    continue
+                response, attributes = answers_of(request, client, relayed)
+                server.sendto(message(response | kind, request.transaction_id, attributes), client)
+                if kind == CREATE_PERMISSION:
+                    data, _ = relayed.recvfrom(2_000)
+                    indication = [(XOR_PEER_ADDRESS, address_value(mapped)), (DATA, data)]
+                    server.sendto(message(DATA_INDICATION, bytes(12), indication), client)
+        thread = threading.Thread(target=serve)
+        thread.start()
+        found = checked(server.getsockname()[1], *USER)
+        thread.join()
+        words = ("CreatePermission", "a datagram to the relayed address", "a datagram from the relayed address")
+        printed = BINDING + f"127.0.0.1:{relayed.getsockname()[1]} for 600 s: Allocate, T\n" + "".join(f"{line}, T\n" for line in words)
+        yield from wanted("behind a NAT whose ports depend on the destination", found, (0, printed, ""))
+
+
 def lines():
     """Yields which command lines are answered otherwise."""
     rows = [
@@ -118,7 +163,7 @@ def lines():
 
 def main():
     """Runs the parts, and returns the exit status."""
-    return run_parts("check", [serving, refusing, denying, others, lines])
+    return run_parts("check", [serving, refusing, denying, others, behind_nat, lines])
 
 
 if __name__ == "__main__":

@@ -3,7 +3,7 @@
 use crate::error::{CheckError, Step};
 use crate::exchange::{Exchange, Reply, Wanted, What};
 use crate::messages::{
-    Ask, Login, MESSAGE_BYTES, UNAUTHENTICATED, address_in, response_in, write_send,
+    Ask, Login, MESSAGE_BYTES, UNAUTHENTICATED, address_in, peer_of_data, response_in, write_send,
 };
 use attributes::{Addr, lifetime};
 use credentials::Key;
@@ -135,31 +135,33 @@ fn permit<R: Clock + Net, G: Rng, W: Write>(
     print(out, "CreatePermission", reply.took)
 }
 
-/// Sends a datagram to the relayed address, which comes back from the server.
+/// Sends a datagram to the relayed address, which comes back from the server, and returns the address that it had there. A NAT of the
+/// client may give it another port than the requests (RFC 4787, section 4.1).
 fn send_to_relayed<R: Clock + Net, G: Rng, W: Write>(
     exchange: &Exchange<'_, R, G>,
     relayed: SocketAddr,
     out: &mut W,
-) -> Result<(), CheckError> {
+) -> Result<Addr, CheckError> {
     let wanted = Wanted {
         step: Step::ToRelayed,
         from: exchange.server,
         is: What::Data(DATA),
     };
     let reply = exchange.send_until(DATA, relayed, &wanted)?;
-    print(out, "a datagram to the relayed address", reply.took)
+    print(out, "a datagram to the relayed address", reply.took)?;
+    peer_of_data(reply.as_bytes(), DATA).ok_or(CheckError::Unexpected(Step::ToRelayed))
 }
 
 /// Sends a datagram to the client itself over the relay.
 fn send_from_relayed<R: Clock + Net, G: Rng, W: Write>(
     exchange: &mut Exchange<'_, R, G>,
-    mapped: &Addr,
+    client: &Addr,
     relayed: SocketAddr,
     out: &mut W,
 ) -> Result<(), CheckError> {
     let tx = exchange.draw();
     let mut buffer = [0; MESSAGE_BYTES];
-    let Ok(len) = write_send(mapped, DATA, tx, &mut buffer) else {
+    let Ok(len) = write_send(client, DATA, tx, &mut buffer) else {
         return Err(CheckError::Long);
     };
     let wanted = Wanted {
@@ -192,8 +194,8 @@ fn relay<R: Clock + Net, G: Rng, W: Write>(
     permit(exchange, login, mapped, out)?;
     let relayed = socket_address(&relayed);
     // the first one opens the way back through a NAT of the client
-    send_to_relayed(exchange, relayed, out)?;
-    send_from_relayed(exchange, &mapped, relayed, out)
+    let client = send_to_relayed(exchange, relayed, out)?;
+    send_from_relayed(exchange, &client, relayed, out)
 }
 
 /// Checks the allocation of a user, which is ended in any case.

@@ -1,7 +1,7 @@
 //! Datagrams that are sent until something comes back.
 
 use crate::error::{CheckError, Step};
-use crate::messages::{Ask, Login, MESSAGE_BYTES, is_of, write_request};
+use crate::messages::{Ask, Login, MESSAGE_BYTES, is_of, peer_of_data, write_request};
 use rand::Rng;
 use std::io::ErrorKind;
 use std::net::{Net, SocketAddr, UdpSocket};
@@ -55,7 +55,7 @@ impl Wanted<'_> {
         from == self.from
             && match self.is {
                 What::Response(tx) => is_of(datagram, tx),
-                What::Data(bytes) => crate::messages::is_data(datagram, bytes),
+                What::Data(bytes) => peer_of_data(datagram, bytes).is_some(),
                 What::Bytes(bytes) => datagram == bytes,
             }
     }

@@ -118,15 +118,17 @@ pub(crate) fn is_of(datagram: &[u8], tx: [u8; 12]) -> bool {
     }
 }
 
-/// Returns whether a datagram is a Data indication of these bytes.
-pub(crate) fn is_data(datagram: &[u8], bytes: &[u8]) -> bool {
+/// Returns the peer that a datagram names, if it is a Data indication of these bytes.
+pub(crate) fn peer_of_data(datagram: &[u8], bytes: &[u8]) -> Option<Addr> {
     let kind = MessageType {
         method: Method::Data,
         class: Class::Indication,
     };
     match read(datagram) {
-        Ok(message) => message.kind() == kind.kind() && message.value_of(DATA) == Some(bytes),
-        Err(_) => false,
+        Ok(message) if message.kind() == kind.kind() && message.value_of(DATA) == Some(bytes) => {
+            address_in(&message, XOR_PEER_ADDRESS)
+        }
+        _ => None,
     }
 }
 
