@@ -252,7 +252,7 @@ def made(program):
     """Returns what each file has to contain, by its path, and what is wrong with the table of this script."""
     texts = {"": help_of(program, "")}
     texts |= {command: help_of(program, command) for command, _ in texts[""].lists["Commands"] if command != "help"}
-    version = printed(program, "--version").strip()
+    version = printed(program, "--version").split(",")[0]
     files = {FOLDER / "man" / f"{name_of(command)}.1": page(command, version, texts) for command in texts}
     return files | {FOLDER / "relayd.bash": completion(texts)}, list(without_help(texts))
 

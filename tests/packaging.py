@@ -181,10 +181,14 @@ def files(program, folder):
 
 
 def information(program, folder):
-    """The package says what it is, and the program in it is of its version."""
+    """The package says what it is, and the program in it is of its version, and names the kit that README does."""
     root = unpacked(program, folder)
     fields = output("dpkg-deb", "--field", package(program, folder), "Package", "Version", "Architecture", "Depends")
-    version = run(["--version"], root / "usr/bin/relayd")[1].split()[-1]
+    printed = run(["--version"], root / "usr/bin/relayd")[1]
+    version = printed.removeprefix("relayd ").partition(",")[0]
+    kit = re.search(r"^The kit `([^`]+)`:", (TOP / "README.md").read_text(encoding="utf-8"), re.MULTILINE)[1]
+    if printed != f"relayd {version}, proved by {kit}\n":
+        yield f"--version: {printed}"
     wanted = f"Package: relayd\nVersion: {version}\nArchitecture: amd64\nDepends: libc6 (>= 2.N), adduser | systemd\n"
     if re.sub(r"(?<=>= 2\.)\d+", "N", fields) != wanted:
         yield f"fields: {fields}"

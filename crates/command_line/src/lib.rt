@@ -22,8 +22,8 @@ use std::convert::AsStr;
 use std::net::{Ipv4Addr, Ipv6Addr};
 pub use values::ValueError;
 
-/// The version that `--version` prints.
-const VERSION: &str = "0.1.0";
+/// What `--version` prints: the version, and the kit whose prover and compiler made the program.
+const VERSION: &str = "0.1.0, proved by rattle-kit-13f";
 
 /// What `--help` says of the whole command.
 const ABOUT: &str =
