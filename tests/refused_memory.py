@@ -42,6 +42,9 @@ SECRET = pathlib.Path(FOLDER.name) / "secret"
 SECRET.write_text("a secret of the test\nand the former one\n")
 REVOKED = pathlib.Path(FOLDER.name) / "revoked"
 REVOKED.write_text("ann\nben\n")
+# `mov r0, 0` and a jump to it
+LOOP = pathlib.Path(FOLDER.name) / "loop"
+LOOP.write_bytes(bytes.fromhex("b700000000000000 0500feff00000000"))
 # a source map of the program whose jumps lead backward
 LINES = pathlib.Path(FOLDER.name) / "lines"
 LINES.write_text("".join(f"{slot} a.s:{slot + 1} text\n" for slot in range(7)))
@@ -69,6 +72,8 @@ CASES = [
     (["disassemble", BRANCHES_TEXT], 1),
     (["assemble", UNCHECKED_TEXT, "/dev/null", "--lines", "/dev/null"], 0),
     (["order", BACKWARD, "/dev/null", "--from", str(LINES), "--lines", "/dev/null"], 0),
+    (["order", BACKWARD, "/dev/null", "--lines", "/dev/null"], 0),
+    (["order", str(LOOP), "/dev/null", "--lines", "/dev/null"], 1),
     (["verify", BACKWARD, "--lines", str(LINES)], 1),
     (["disassemble", BACKWARD, "--lines", str(LINES)], 0),
     (["trace", str(EXAMPLES / "permitted_source.bpf"), "--permit", "127.0.0.1", "--channel", "0x4000=192.0.2.7:1"], 0),

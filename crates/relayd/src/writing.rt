@@ -4,7 +4,7 @@ use crate::options::{CommandError, status_of, unread};
 use crate::reports::{map_of, read_lines};
 use crate::{REFUSED, note_object_file, read_text, read_whole};
 use asm::{AsmError, assemble_with_lines};
-use insn::decode;
+use insn::{DecodeError, decode};
 use ordering::{FileError, FileInOrder, OrderError, Places, order_file, way_round};
 use report::{SourceLine, SourceMap, annotated, map_of_slots, map_of_text};
 use semantics::{Fetched, Program};
@@ -84,6 +84,7 @@ pub(crate) fn assemble_file<R: Files + Input + Print + AllocGlobal, E: Write>(
 fn own_lines(alloc: Global, name: &str, file: &[u8]) -> Result<String, AllocError> {
     match decode(alloc, file) {
         Ok(code) => map_of_slots(alloc, name, &code),
+        Err(DecodeError::Memory) => Err(AllocError),
         Err(_) => Ok(String::new(alloc)),
     }
 }
@@ -116,8 +117,8 @@ fn slot_of(error: FileError) -> Option<usize> {
     }
 }
 
-/// Prints why a program is not put in order, with the line of its source where a map has it, and what to do where its file is an
-/// object file, and returns the exit status.
+/// Prints why a program is not put in order, with the line of its source where a map has it, the way round a loop, and what to do
+/// where its file is an object file, and returns the exit status.
 fn refuse_order<'a, E: Write>(
     alloc: Global,
     err: &mut E,
@@ -128,6 +129,15 @@ fn refuse_order<'a, E: Write>(
     if error == FileError::Memory {
         return Err(CommandError::Memory);
     }
+    let way = match (map, error) {
+        (Some(map), FileError::Order(OrderError::Loop { slot })) => {
+            loop_text(alloc, file, map, slot)
+        }
+        _ => Ok(String::new(alloc)),
+    };
+    let Ok(way) = way else {
+        return Err(CommandError::Memory);
+    };
     let line = match (map, slot_of(error)) {
         (Some(map), Some(slot)) => map.line(slot),
         _ => None,
@@ -136,14 +146,7 @@ fn refuse_order<'a, E: Write>(
         Some(SourceLine { place, .. }) => writeln!(err, "refused {error}, {place}"),
         None => writeln!(err, "refused {error}"),
     };
-    if let Some(map) = map
-        && let FileError::Order(OrderError::Loop { slot }) = error
-    {
-        let Ok(text) = loop_text(alloc, file, map, slot) else {
-            return Err(CommandError::Memory);
-        };
-        let _ = err.write_all(text.as_bytes());
-    }
+    let _ = err.write_all(way.as_bytes());
     note_object_file(err, file);
     Ok(REFUSED)
 }
@@ -156,8 +159,10 @@ fn loop_text(
     slot: usize,
 ) -> Result<String, AllocError> {
     let mut text = String::new(alloc);
-    let Ok(code) = decode(alloc, file) else {
-        return Ok(text);
+    let code = match decode(alloc, file) {
+        Ok(code) => code,
+        Err(DecodeError::Memory) => return Err(AllocError),
+        Err(_) => return Ok(text),
     };
     let program = Program::new(alloc, &code)?;
     for slot in &way_round(alloc, &code, slot)? {
