@@ -1,5 +1,5 @@
-"""A page in headless Chromium, driven through DevTools by a pipe: `peers.html`, which sends itself messages over a relay, or
-the page of `examples/web`.
+"""Pages in headless Chromium, driven through DevTools by a pipe: `peers.html`, which sends itself messages over a relay, the page
+of `examples/web`, and `call.html`, a side of a call.
 """
 
 import contextlib
@@ -14,8 +14,9 @@ import tempfile
 import time
 
 PAGE = pathlib.Path(__file__).with_name("peers.html")
-FLAGS = ["--headless=new", "--no-sandbox", "--disable-gpu", "--remote-debugging-pipe",
-         "--allow-loopback-in-peer-connection"]
+FLAGS = ["--headless=new", "--no-sandbox", "--disable-gpu", "--remote-debugging-pipe", "--allow-loopback-in-peer-connection",
+         "--autoplay-policy=no-user-gesture-required", "--disable-background-timer-throttling",
+         "--disable-backgrounding-occluded-windows", "--disable-renderer-backgrounding"]
 SECONDS = 60  # how long an answer is waited for, that of the page after all its messages too
 ABOVE = 10  # the pipe's ends are moved here before they become the descriptors 3 and 4
 
@@ -23,7 +24,7 @@ ABOVE = 10  # the pipe's ends are moved here before they become the descriptors 
 class Browser:
     """A running browser. Its DevTools read requests from descriptor 3 and write answers to 4, each ended by a zero."""
 
-    def __init__(self, program, profile):
+    def __init__(self, words, profile):
         read_requests, self.requests = os.pipe()
         self.answers, write_answers = os.pipe()
 
@@ -33,7 +34,7 @@ class Browser:
                 os.dup2(end, descriptor)
 
         self.process = subprocess.Popen(
-            [program, *FLAGS, f"--user-data-dir={profile}", "about:blank"], preexec_fn=set_descriptors, close_fds=False,
+            [*words, *FLAGS, f"--user-data-dir={profile}", "about:blank"], preexec_fn=set_descriptors, close_fds=False,
             stdout=subprocess.DEVNULL, stderr=subprocess.DEVNULL)
         os.close(read_requests)
         os.close(write_answers)
@@ -66,27 +67,41 @@ class Browser:
                 return answer["result"]
 
 
+class Page:
+    """A page of a browser."""
+
+    def __init__(self, browser, url):
+        self.browser = browser
+        target = browser.ask("Target.createTarget", url="about:blank")["targetId"]
+        self.session = browser.ask("Target.attachToTarget", targetId=target, flatten=True)["sessionId"]
+        browser.ask("Page.enable", self.session)
+        browser.ask("Page.navigate", self.session, url=url)
+
+    def evaluate(self, name, expression):
+        """Returns the value of an expression, once the page has defined a name."""
+        loaded = f'while (typeof {name} === "undefined") await new Promise((go) => setTimeout(go, 10));'
+        call = f"(async () => {{ {loaded} return {expression}; }})()"
+        found = self.browser.ask("Runtime.evaluate", self.session, expression=call, awaitPromise=True, returnByValue=True)
+        return found["result"].get("value")
+
+
 @contextlib.contextmanager
-def opened(program, url):
-    """A page in a browser of its own: what evaluates an expression in it, once the page has defined a name."""
+def started(*words):
+    """A browser that these words start, with a profile of its own."""
     with tempfile.TemporaryDirectory(ignore_cleanup_errors=True) as profile:
-        browser = Browser(program, profile)
+        browser = Browser(words, profile)
         try:
-            target = browser.ask("Target.createTarget", url="about:blank")["targetId"]
-            session = browser.ask("Target.attachToTarget", targetId=target, flatten=True)["sessionId"]
-            browser.ask("Page.enable", session)
-            browser.ask("Page.navigate", session, url=url)
-
-            def evaluate(name, expression):
-                loaded = f'while (typeof {name} === "undefined") await new Promise((go) => setTimeout(go, 10));'
-                call = f"(async () => {{ {loaded} return {expression}; }})()"
-                found = browser.ask("Runtime.evaluate", session, expression=call, awaitPromise=True, returnByValue=True)
-                return found["result"].get("value")
-
-            yield evaluate
+            yield browser
         finally:
             browser.process.terminate()
             browser.process.wait(10)
+
+
+@contextlib.contextmanager
+def opened(program, url):
+    """A page in a browser of its own: what evaluates an expression in it, once the page has defined a name."""
+    with started(program) as browser:
+        yield Page(browser, url).evaluate
 
 
 def exchange(program, url, username, password, count):
