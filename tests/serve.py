@@ -37,7 +37,7 @@ CLIENTS, DATAGRAMS, BATCH = 10, 200_000, 40
 # stops for a moment makes a round trip late once; a server that is held up makes one late at each attempt.
 SLOW = ("sums in the last register", "marks with a chain", "64 pointers, 32 states, and 4,000 jumps",
         "products that four registers share, 14 forks")
-SLOWEST = "pointers on the stack"
+SLOWEST = "products that four registers share, 14 forks"
 ROUND_TRIPS, MOST_TRIPS, LATE, ATTEMPTS = 10_000, 1_000_000, 0.1, 3
 # The receives that fail, counted from the start. With two slots the first three are one at each socket, where nothing
 # has come yet; the next is that of the first datagram, and the one after it would find nothing more.
@@ -772,7 +772,7 @@ def withdrawn_programs():
         folder = pathlib.Path(name)
         paths = {side: shipped(folder, side) for side in ("client", "peer")}
         good = paths["peer"].read_bytes()
-        slow = assembled(folder, "slow", "\n".join(known_programs()[SLOWEST]))
+        slow = assembled(folder, "slow", "\n".join(longest_programs()[SLOWEST]))
         with Server("--client", str(paths["client"]), "--peer", str(paths["peer"])) as server:
             with server.stopped():
                 put(paths["client"], DISCARD)

@@ -3,9 +3,10 @@
     tests/tending.py [SECONDS]
 
 A client and a peer exchange data through a server that looks at each of its files, prints its counters each second, writes its metrics
-and logs, first alone, and then beside a process that holds 16,000 UDP sockets, which the system lists in a table. With gcc the longest
-time of the processor between two receives is printed: so long no datagram is looked at. A virtual machine that stops for a moment is
-part of that time, so that a run in which it is above 250 microseconds is repeated, and the least of some runs is the server's own.
+to a folder in memory, as the units do, and logs, first alone, and then beside a process that holds 16,000 UDP sockets, which the system
+lists in a table. With gcc the longest time of the processor between two receives is printed: so long no datagram is looked at. A virtual
+machine that stops for a moment is part of that time, so that a run in which it is above 250 microseconds is repeated, and the least of
+some runs is the server's own.
 """
 
 import contextlib
@@ -25,6 +26,8 @@ from lib.server import Client, Server, address_of, round_trip, udp_socket
 # longer than the fifteen seconds after which metrics are written
 SECONDS = 20
 SOCKETS = 16_000
+# a folder in memory, as /run is
+MEMORY = "/dev/shm"
 MOST, RUNS = 250e-6, 8
 
 
@@ -53,14 +56,14 @@ def many_sockets():
         os.waitpid(child, 0)
 
 
-def held_up(folder, seconds):
+def held_up(folder, metrics, seconds):
     """Returns the longest time of the processor between two receives, and how many round trips were lost."""
     held = folder / "held"
     (folder / "users").write_text("ann:p\n")
     (folder / "secret").write_text("a secret of the bench\n")
     (folder / "revoked").write_text("ben\n")
     words = ["--users", folder / "users", "--secret", folder / "secret", "--revoked", folder / "revoked", "--client", shipped(folder, "client"),
-             "--peer", shipped(folder, "peer"), "--stats", "1", "--metrics", folder / "metrics", "--log"]
+             "--peer", shipped(folder, "peer"), "--stats", "1", "--metrics", metrics, "--log"]
     environment = {**os.environ, "LD_PRELOAD": str(preloadable(folder, "held")), "HELD": str(held)}
     lost = 0
     with Server(*map(str, words), env=environment) as server, Client(server) as client, udp_socket() as peer:
@@ -74,11 +77,11 @@ def held_up(folder, seconds):
     return int(held.read_text(encoding="ascii")) / 1e9, lost
 
 
-def measured(folder, title, seconds):
+def measured(folder, metrics, title, seconds):
     """Prints how long the server held up datagrams, and yields what is wrong."""
     runs = []
     while not runs or min(runs) > MOST and len(runs) < RUNS:
-        longest, lost = held_up(folder, seconds)
+        longest, lost = held_up(folder, metrics, seconds)
         runs.append(longest)
         print(f"{title}: held up for {longest * 1e6:.0f} us of the processor at most, {lost} lost", flush=True)
         if lost:
@@ -93,11 +96,11 @@ def main():
     seconds = int(sys.argv[1]) if len(sys.argv) > 1 else SECONDS
     if not shutil.which("gcc"):
         sys.exit("gcc is needed")
-    with tempfile.TemporaryDirectory() as name:
-        folder = pathlib.Path(name)
-        failures = list(measured(folder, "alone", seconds))
+    with tempfile.TemporaryDirectory() as name, tempfile.TemporaryDirectory(dir=MEMORY) as memory:
+        folder, metrics = pathlib.Path(name), pathlib.Path(memory) / "metrics"
+        failures = list(measured(folder, metrics, "alone", seconds))
         with many_sockets():
-            failures += measured(folder, f"beside {SOCKETS:,} sockets", seconds)
+            failures += measured(folder, metrics, f"beside {SOCKETS:,} sockets", seconds)
     return finish(failures, f"tending: {len(failures)} failures")
 
 
