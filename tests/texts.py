@@ -5,8 +5,10 @@ and with them, and both texts have to give the same bytes. Wrong texts and files
 those that were worked by hand and, where Graphviz is installed, it reads each of them.
 """
 
+import html
 import json
 import pathlib
+import re
 import shutil
 import subprocess
 import sys
@@ -141,6 +143,17 @@ def failures_of_slots(folder):
             yield f"{' '.join(words)}: {got}"
 
 
+def failures_of_picture():
+    """Yields where the picture of the pages has other texts than the graph that the command draws of its program."""
+    status, graph, err = run(["graph", TOP / "examples" / "first_byte_class.bpf"])
+    labels = re.findall(r'label=(?:"([^"]*)"|(\w+))', graph)
+    drawn = [line for quoted, word in labels for line in (quoted or word).split("\\l") if line]
+    picture = (TOP / "docs" / "first_byte_class.svg").read_text(encoding="utf-8")
+    texts = [html.unescape(text).replace("\u00a0", " ") for text in re.findall(r"<text[^>]*>([^<]*)</text>", picture)]
+    if status or err or sorted(texts) != sorted(drawn):
+        yield f"docs/first_byte_class.svg isn't the picture of its program: {sorted(texts)}, {graph}{err}"
+
+
 def failures_of_graphs(folder):
     """Yields the graphs that are not the worked ones, or that Graphviz doesn't read where it is installed."""
     file, cut, picture = folder / "program.bpf", folder / "cut.bpf", folder / "program.svg"
@@ -207,6 +220,7 @@ def main():
             *failures_of_round_trips(folder, listed),
             *failures_of_slots(folder),
             *failures_of_graphs(folder),
+            *failures_of_picture(),
             *failures_of_refusals(folder),
             *failures_of_files(folder),
         ]
