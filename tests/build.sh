@@ -78,7 +78,7 @@ room=$(mktemp -d)
 trap 'rm -rf "$room"' EXIT
 SECONDS=0
 copy_crates "$room"
-echo "proving and building relayd: ${#crates[@]} crates, an hour on 4 processors the first time" >&2
+echo "proving and building relayd: ${#crates[@]} crates, half an hour to an hour on 4 processors the first time" >&2
 if ! (cd "$room" && exec rt ci) 2>&1 9>&- | report_progress; then
   tail -n 20 "$build_log" >&2
   echo "relayd was not built; the whole log is $build_log" >&2

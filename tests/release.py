@@ -135,7 +135,7 @@ def not_taken(name, repository, reason):
     """Yields what `./relayd` does otherwise than to say why it doesn't take the released program, and to begin a build."""
     status, out, err = repository.run("relayd", *WORDS)
     yield from unlike(f"{name}, not taken", (status, out, repository.gates()), (1, "", "ci\n"))
-    wanted = f"{reason}proving and building relayd: 2 crates, an hour on 4 processors the first time\n"
+    wanted = f"{reason}proving and building relayd: 2 crates, half an hour to an hour on 4 processors the first time\n"
     # what README.md names may be another kit, and xz has a line of its own
     lines = [line for line in err.splitlines(keepends=True) if not line.startswith(("README.md names ", "xz: "))]
     yield from unlike(f"{name}, said", "".join(lines[:-1]), wanted)
@@ -315,7 +315,7 @@ def at_once(folder):
             yield from unlike("a build", build.stderr.readline(), "another build of relayd or the test command runs in this "
                               f"checkout, and this one waits for it; see {log}\n")
         yield from unlike("gates while they wait", repository.gates(), "")
-    began = "proving and building relayd: 2 crates, an hour on 4 processors the first time\n"
+    began = "proving and building relayd: 2 crates, half an hour to an hour on 4 processors the first time\n"
     yield from unlike("builds", sorted(map(ended, builds)), [(0, "", ""), (0, "", began)])
     yield from unlike("gates", repository.gates(), "ci\n")
 
