@@ -146,10 +146,80 @@ def replayed(folder):
             yield f"session, line {number}: {shown} {answer}"
 
 
+MAP = "0 mine.c:3\n1 mine.c:4\n2 mine.c:4\n3 mine.c:5\n4 mine.c:7\n"
+MAPPED_COVERED = COVERED.replace("[r1+16]       ; 4", "[r1+16]       ; 4 ; mine.c:3").replace(
+    "1 mov r0, 1               ; 4", "1 mov r0, 1               ; 4 ; mine.c:4").replace(
+    "3 mov r0, 0               ; 1", "3 mov r0, 0               ; 1 ; mine.c:5").replace(
+    "4 exit                    ; 4", "4 exit                    ; 4 ; mine.c:7")
+MAPPED_LONG = LONG.replace("[r1+16]", "[r1+16] ; mine.c:3").replace("r0, 1", "r0, 1 ; mine.c:4").replace("r0, 0", "r0, 0 ; mine.c:5").replace(
+    "4 exit", "4 exit ; mine.c:7")
+
+
+def mapped(folder):
+    """Replays events with the source map of one program, or of both, of which the other one isn't another program's."""
+    client, peer, events = assembled(folder, "client", RULE), assembled(folder, "peer", PEER_RULE), folder / "events"
+    events.write_text("".join(f"{line}\n" for line in EVENTS))
+    lines, other = folder / "lines", folder / "other"
+    lines.write_text(MAP)
+    other.write_text("0 peer.c:1\n2 peer.c:1\n3 peer.c:2\n")
+    words = ["replay", events, "--user", "u:p", "--client", client, "--peer", peer]
+    of_peer = OF_PEER.replace("r0, 3", "r0, 3 ; peer.c:1").replace("3 exit", "3 exit ; peer.c:2")
+    for options, status, wanted in [
+            (["--cover", "--client-lines", lines], 0, (run(words)[1], MAPPED_COVERED)),
+            (["--trace", "2", "--client-lines", lines], 0, (MAPPED_LONG, "")), (["--trace", "5", "--client-lines", lines], 0, (OF_PEER, "")),
+            (["--trace", "5", "--client-lines", lines, "--peer-lines", other], 0, (of_peer, "")),
+            (["--trace", "4", "--client-lines", lines], 1, ("", "no datagram at line 4\n")),
+            (["--cover", "--client-lines", other], 1, ("", "refused lines of another program: slot 4 isn't there\n")),
+            (["--cover", "--client-lines", lines, "--peer-lines", lines], 1, (
+                "", "refused lines of another program: no instruction begins at slot 1\n")),
+            (["--cover", "--client-lines", other, "--peer-lines", folder / "none"], 3, ("", f"cannot read {folder}/none\n"))]:
+        if (found := run([*words, *options])) != (status, *wanted):
+            yield f"{options}: {found}"
+
+
+SESSION = ["replay", "--users", TOP / "examples" / "users.txt", "--relay-ip", "203.0.113.1"]
+DISCARD = "mov r0, 0\nexit"
+
+
+def against(folder):
+    """Replays a session against other programs: the answers that differ are those of two replays, whatever their reasons."""
+    session, discard = TOP / "examples" / "session.events", assembled(folder, "discard", DISCARD)
+    count = len(session.read_text().splitlines())
+    shipped = {side: assembled(folder, side, (TOP / "examples" / "relay" / f"{side}.s").read_text()) for side in ("client", "peer")}
+    for options in (["--against", shipped["client"]], ["--against-peer", shipped["peer"]], ["--against", shipped["client"], "--against-peer", shipped["peer"]]):
+        if (found := run([*SESSION, session, *options])) != (0, f"0 of {count} answers differ\n", ""):
+            yield f"{options}: {found}"
+    for name, sides in (("against", ["client"]), ("against-peer", ["peer"]), ("both", ["client", "peer"])):
+        new = [word for side in sides for word in (f"--{side}", discard)]
+        pairs = list(zip(*(run([*SESSION, session, "--why", *words])[1].splitlines() for words in ([], new))))
+        differing = [(number, old, new) for number, (old, new) in enumerate(pairs, 1) if old.split(" ; ")[0] != new.split(" ; ")[0]]
+        wanted = "".join(f"{number} - {old}\n{number} + {new}\n" for number, old, new in differing) + f"{len(differing)} of {count} answers differ\n"
+        options = [word for side in sides for word in (f"--against{'' if side == 'client' else '-peer'}", discard)]
+        if (found := run([*SESSION, session, *options])) != (0, wanted, "") or not differing:
+            yield f"{name}: {found}"
+        # of programs that are given, those are compared with the shipped ones
+        if (found := run([*SESSION, session, *new, *options]))[1] != f"0 of {count} answers differ\n":
+            yield f"{name} with itself: {found}"
+    bad, events = folder / "bad", folder / "events"
+    bad.write_bytes(bytes(8))
+    events.write_text(session.read_text().splitlines()[0] + "\nnothing\n")
+    first = run([*SESSION, session, "--why"])[1].splitlines()[0], run([*SESSION, session, "--why", "--client", discard])[1].splitlines()[0]
+    for words, wanted in [
+            ([session, "--against", bad], (1, "", f"refused E4 at 0 in {bad}\nrelayd explain {bad} shows why\n")),
+            ([session, "--against-peer", folder / "none"], (3, "", f"cannot read {folder}/none\n")),
+            ([folder / "none", "--against", discard], (3, "", f"cannot read {folder}/none\n")),
+            ([events, "--against", discard], (1, f"1 - {first[0]}\n1 + {first[1]}\n", "refused line 2\n"))]:
+        if (found := run([*SESSION, *words])) != wanted:
+            yield f"{words}: {found}"
+    with open("/dev/full", "w", encoding="utf-8") as full:
+        if run([*SESSION, session, "--against", discard], stdout=full)[::2] != (3, "cannot write output\n"):
+            yield "an output that is full"
+
+
 def main():
     """Runs each part in a folder of its own, and returns the exit status."""
     with tempfile.TemporaryDirectory() as folder:
-        return run_parts("traces", [rows, refused, replayed], Path(folder), summary=f"{len(ROWS)} runs, {len(REFUSED)} refusals; ")
+        return run_parts("traces", [rows, refused, replayed, mapped, against], Path(folder), summary=f"{len(ROWS)} runs, {len(REFUSED)} refusals; ")
 
 
 if __name__ == "__main__":

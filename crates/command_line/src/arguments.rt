@@ -189,7 +189,7 @@ const EXPLAIN: &[Argument] = &[
 ];
 
 /// Those of `graph`.
-const GRAPH: &[Argument] = &[FILE];
+const GRAPH: &[Argument] = &[FILE, LINES];
 
 /// Those of `trace`.
 const TRACE: &[Argument] = &[
@@ -259,6 +259,26 @@ const REPLAY: &[Argument] = &[
         takes: Takes::Nothing,
         help: "Print to standard error how often each instruction of the programs ran, and each jump was taken",
     },
+    Argument {
+        name: "client-lines",
+        takes: Takes::Value("MAP"),
+        help: "The source map of the program for clients' datagrams, whose lines --trace and --cover print",
+    },
+    Argument {
+        name: "peer-lines",
+        takes: Takes::Value("MAP"),
+        help: "The source map of the program for peers' datagrams, whose lines --trace and --cover print",
+    },
+    Argument {
+        name: "against",
+        takes: Takes::Value("FILE"),
+        help: "Print only the answers that differ with this program for clients' datagrams, and how many there are",
+    },
+    Argument {
+        name: "against-peer",
+        takes: Takes::Value("FILE"),
+        help: "Print only the answers that differ with this program for peers' datagrams, and how many there are",
+    },
 ];
 
 /// Those of `serve` alone.
@@ -312,6 +332,16 @@ pub(crate) const SERVE: &[Argument] = &[
         name: "unconfined",
         takes: Takes::Nothing,
         help: "Let the programs send to and from peers that clients haven't permitted",
+    },
+    Argument {
+        name: "shadow-client",
+        takes: Takes::Value("FILE"),
+        help: "A program that runs beside that for clients' datagrams and decides nothing; where it differs is counted",
+    },
+    Argument {
+        name: "shadow-peer",
+        takes: Takes::Value("FILE"),
+        help: "A program that runs beside that for peers' datagrams and decides nothing; where it differs is counted",
     },
     Argument {
         name: "rounds",

@@ -99,6 +99,35 @@ pub struct ServerOptions<'a> {
     pub log: bool,
     /// Whether the programs may send to and from peers that clients haven't permitted.
     pub unconfined: bool,
+    /// The file of a program that runs beside that for clients' datagrams, and decides nothing.
+    pub shadow_client: Option<&'a str>,
+    /// The file of a program that runs beside that for peers' datagrams, and decides nothing.
+    pub shadow_peer: Option<&'a str>,
+}
+
+/// The options of a replay alone. Those that have a default have it where they are not given, and the others are `None`.
+#[derive(Clone, Copy, Debug)]
+pub struct ReplayOptions<'a> {
+    /// The file of the events; `-` is standard input.
+    pub events: &'a str,
+    /// The first nonce; `n1` by default.
+    pub nonce: &'a str,
+    /// Whether the reason of each answer is printed.
+    pub why: bool,
+    /// Whether the programs are confined to the peers that clients have permitted.
+    pub confine: bool,
+    /// The line whose run is printed in place of the answers.
+    pub trace: Option<u64>,
+    /// Whether it is printed what of the programs the events met.
+    pub cover: bool,
+    /// The source map of the program for clients' datagrams.
+    pub client_lines: Option<&'a str>,
+    /// The source map of the program for peers' datagrams.
+    pub peer_lines: Option<&'a str>,
+    /// The file of a program for clients' datagrams whose answers are compared.
+    pub against: Option<&'a str>,
+    /// The file of a program for peers' datagrams whose answers are compared.
+    pub against_peer: Option<&'a str>,
 }
 
 /// What a program that is traced gets beside the datagram, as texts. Each is `None` where it is not given.
@@ -135,6 +164,7 @@ pub enum Subcommand<'a> {
     /// Draw the blocks of the program in a file and its jumps.
     Graph {
         file: &'a str,
+        lines: Option<&'a str>,
     },
     /// Run the program in a file over a datagram and print each step. `data` is the datagram in
     /// hexadecimal digits, and `None` stands for the empty one. `given` is what else the program gets.
@@ -164,17 +194,9 @@ pub enum Subcommand<'a> {
         slots: bool,
         lines: Option<&'a str>,
     },
-    /// Replay the events in a file through a relay, and print each answer, with its reason where `why` says so. The file `-`
-    /// is standard input. The nonce is `n1` by default. Where `confine` says so, the programs are confined to the peers that
-    /// clients have permitted. `trace` is the line whose run is printed in place of the answers, and where `cover` says so, it is
-    /// printed what of the programs the events met.
+    /// Replay the events in a file through a relay, and print each answer.
     Replay {
-        events: &'a str,
-        nonce: &'a str,
-        why: bool,
-        confine: bool,
-        trace: Option<u64>,
-        cover: bool,
+        replay: ReplayOptions<'a>,
         options: Options<'a>,
     },
     /// Serve clients and peers over UDP sockets.

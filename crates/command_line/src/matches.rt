@@ -4,7 +4,7 @@ use crate::defaults::{
     BUFFER, FIRST_PORT, LISTEN, NONCE, NONCE_LIFETIME, REALM, RECORD_LIMIT, SLOTS,
 };
 use crate::values::{ValueError, buffer, ip, ip6, number, octets6, port, seconds, slots};
-use crate::{Options, ServerOptions, Subcommand, TraceOptions};
+use crate::{Options, ReplayOptions, ServerOptions, Subcommand, TraceOptions};
 use clap::ArgMatches;
 use std::net::{Ipv4Addr, Ipv6Addr};
 
@@ -75,7 +75,8 @@ fn verify_of<'a>(matches: &'a ArgMatches<'_>) -> Option<Subcommand<'a>> {
 /// Returns the subcommand `graph` of its matches, or `None` where the file is missing.
 fn graph_of<'a>(matches: &'a ArgMatches<'_>) -> Option<Subcommand<'a>> {
     let file = text(matches, "file")?;
-    Some(Subcommand::Graph { file })
+    let lines = text(matches, "lines");
+    Some(Subcommand::Graph { file, lines })
 }
 
 /// Returns the subcommand `trace` of its matches, or `None` where the file is missing.
@@ -145,17 +146,19 @@ fn replay_of<'a>(matches: &'a ArgMatches<'_>) -> Result<Option<Subcommand<'a>>, 
     };
     let trace = number("--trace <N>", text(matches, "trace"))?;
     let options = options_of(matches)?;
-    let nonce = text_or(matches, "nonce", NONCE);
-    let why = is_given(matches, "why");
-    Ok(Some(Subcommand::Replay {
+    let replay = ReplayOptions {
         events,
-        nonce,
-        why,
+        nonce: text_or(matches, "nonce", NONCE),
+        why: is_given(matches, "why"),
         confine: is_given(matches, "confine"),
         trace,
         cover: is_given(matches, "cover"),
-        options,
-    }))
+        client_lines: text(matches, "client-lines"),
+        peer_lines: text(matches, "peer-lines"),
+        against: text(matches, "against"),
+        against_peer: text(matches, "against-peer"),
+    };
+    Ok(Some(Subcommand::Replay { replay, options }))
 }
 
 /// What a server's sockets are bound to, and what they hold.
@@ -233,6 +236,8 @@ fn serve_of<'a>(matches: &'a ArgMatches<'_>) -> Result<Option<Subcommand<'a>>, V
         record_limit: limits.record_limit,
         log: is_given(matches, "log"),
         unconfined: is_given(matches, "unconfined"),
+        shadow_client: text(matches, "shadow-client"),
+        shadow_peer: text(matches, "shadow-peer"),
     };
     Ok(Some(Subcommand::Serve { server, options }))
 }

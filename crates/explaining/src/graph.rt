@@ -5,10 +5,12 @@ ghost use Rattle.insn.specs.Encoding.{slot_count};
 ghost use Rattle.insn.specs.declared.decoding.TheConstants.{MAX_SLOTS};
 ghost use Rattle.explaining.specs.Explained.{IsDrawn, IsDrawnCode};
 
+use crate::changes::state_note;
 use crate::error::ExplainError;
 use crate::file::searched;
-use crate::printing::slot_of;
+use crate::printing::{first_at, slot_of};
 use crate::searching::Explanation;
+use crate::text::State;
 use insn::{DecodeError, Insn, MAX_SLOTS, decode};
 use interval::Interval;
 use loader::LoadError;
@@ -125,28 +127,81 @@ fn next_block(program: &Program, starts: &[bool], slot: usize, insn: Insn) -> Op
     }
 }
 
+/// The states that the verifier has reached.
+#[derive(Clone, Copy)]
+struct Reached<'a> {
+    /// Those of the path to the instruction that is refused; none of an accepted program.
+    path: &'a [Pending<Interval>],
+    /// The first state of each slot from which a step was made.
+    firsts: &'a [Pending<Interval>],
+}
+
+/// What the graph of a program is drawn of.
+#[derive(Clone, Copy)]
+struct Drawing<'a> {
+    program: &'a Program,
+    /// The marks of the slots at which blocks begin.
+    starts: &'a [bool],
+    /// The marks of the slots of the path, and of the block of the instruction that is refused.
+    marks: &'a [bool],
+    reached: Reached<'a>,
+}
+
+/// Prints what is known in a state, a line for each part, in the label of a block.
+fn print_state<W: Write>(alloc: Global, state: &State, out: &mut W) -> Result<(), ExplainError> {
+    let note = state_note(alloc, state)?;
+    if note.is_empty() {
+        return Ok(());
+    }
+    for part in note.split("; ") {
+        text!(out; "; {part}\\l\\\n")?;
+    }
+    Ok(())
+}
+
+/// Returns the state at a slot that is shown: that of the path to the refusal where it leads there, and else the first one.
+fn shown_state<'a>(reached: Reached<'a>, slot: usize) -> Option<&'a Pending<Interval>> {
+    match first_at(reached.path, slot) {
+        Some(state) => Some(state),
+        None => first_at(reached.firsts, slot),
+    }
+}
+
+/// Prints the beginning of the block at a slot, with what is known there. A block of a path is red.
+fn print_beginning<W: Write>(
+    alloc: Global,
+    drawing: &Drawing<'_>,
+    slot: usize,
+    out: &mut W,
+) -> Result<(), ExplainError> {
+    let color = if is_marked(drawing.marks, slot) {
+        "color=red, "
+    } else {
+        ""
+    };
+    text!(out; "  s{slot} [{color}label=\"\\\n")?;
+    match shown_state(drawing.reached, slot) {
+        Some(shown) => print_state(alloc, &shown.state, out),
+        None => text!(out; "; never reached\\l\\\n"),
+    }
+}
+
 /// Prints an instruction of a block: before the first one the beginning of the block, and after the last one its end.
 fn print_insn<W: Write>(
-    program: &Program,
-    starts: &[bool],
-    marks: &[bool],
+    alloc: Global,
+    drawing: &Drawing<'_>,
     slot: usize,
     insn: Insn,
     out: &mut W,
 ) -> Result<(), ExplainError>
     requires { slot < MAX_SLOTS }
 {
-    if is_marked(starts, slot) {
-        let color = if is_marked(marks, slot) {
-            "color=red, "
-        } else {
-            ""
-        };
-        text!(out; "  s{slot} [{color}label=\"")?;
+    if is_marked(drawing.starts, slot) {
+        print_beginning(alloc, drawing, slot, out)?;
     }
-    text!(out; "{insn} ; {slot}\\l")?;
+    text!(out; "{insn} ; {slot}\\l\\\n")?;
     let next = slot + insn.slots();
-    if begins(program, next) && !is_marked(starts, next) {
+    if begins(drawing.program, next) && !is_marked(drawing.starts, next) {
         return Ok(());
     }
     text!(out; "\"];\n")
@@ -154,14 +209,13 @@ fn print_insn<W: Write>(
 
 /// Prints the blocks of a program. Those of a path are red.
 fn print_blocks<W: Write>(
-    program: &Program,
-    starts: &[bool],
-    marks: &[bool],
+    alloc: Global,
+    drawing: &Drawing<'_>,
     out: &mut W,
 ) -> Result<(), ExplainError> {
     for slot in 0..MAX_SLOTS {
-        if let Fetched::Begins(insn) = program.fetch(slot) {
-            print_insn(program, starts, marks, slot, insn, out)?;
+        if let Fetched::Begins(insn) = drawing.program.fetch(slot) {
+            print_insn(alloc, drawing, slot, insn, out)?;
         }
     }
     Ok(())
@@ -191,49 +245,42 @@ fn arrow_attributes(insn: Insn, branch: Branch, is_red: bool) -> &'static str {
 
 /// Prints the arrow of a branch of an instruction, from its block to that at a slot. It is red where a path leads there.
 fn print_arrow<W: Write>(
-    starts: &[bool],
-    path: &[Pending<Interval>],
+    drawing: &Drawing<'_>,
     from: (usize, Insn),
     branch: Branch,
     to: usize,
     out: &mut W,
 ) -> Result<(), ExplainError> {
     let (slot, insn) = from;
-    let block = block_of(starts, slot);
-    let attributes = arrow_attributes(insn, branch, is_followed(path, slot, to));
+    let block = block_of(drawing.starts, slot);
+    let is_red = is_followed(drawing.reached.path, slot, to);
+    let attributes = arrow_attributes(insn, branch, is_red);
     text!(out; "  s{block} -> s{to}{attributes};\n")
 }
 
 /// Prints the arrows of an instruction.
 fn print_arrows_of<W: Write>(
-    program: &Program,
-    starts: &[bool],
-    path: &[Pending<Interval>],
+    drawing: &Drawing<'_>,
     from: (usize, Insn),
     out: &mut W,
 ) -> Result<(), ExplainError>
     requires { from.0 < MAX_SLOTS }
 {
     let (slot, insn) = from;
-    if let Some(to) = next_block(program, starts, slot, insn) {
-        print_arrow(starts, path, from, Branch::NotTaken, to, out)?;
+    if let Some(to) = next_block(drawing.program, drawing.starts, slot, insn) {
+        print_arrow(drawing, from, Branch::NotTaken, to, out)?;
     }
-    if let Some(to) = target_of(program, slot, insn) {
-        print_arrow(starts, path, from, Branch::Taken, to, out)?;
+    if let Some(to) = target_of(drawing.program, slot, insn) {
+        print_arrow(drawing, from, Branch::Taken, to, out)?;
     }
     Ok(())
 }
 
 /// Prints the arrows between the blocks of a program.
-fn print_arrows<W: Write>(
-    program: &Program,
-    starts: &[bool],
-    path: &[Pending<Interval>],
-    out: &mut W,
-) -> Result<(), ExplainError> {
+fn print_arrows<W: Write>(drawing: &Drawing<'_>, out: &mut W) -> Result<(), ExplainError> {
     for slot in 0..MAX_SLOTS {
-        if let Fetched::Begins(insn) = program.fetch(slot) {
-            print_arrows_of(program, starts, path, (slot, insn), out)?;
+        if let Fetched::Begins(insn) = drawing.program.fetch(slot) {
+            print_arrows_of(drawing, (slot, insn), out)?;
         }
     }
     Ok(())
@@ -243,15 +290,21 @@ fn print_arrows<W: Write>(
 fn print_graph<W: Write>(
     alloc: Global,
     program: &Program,
-    path: &[Pending<Interval>],
+    reached: Reached<'_>,
     refused: Option<usize>,
     out: &mut W,
 ) -> Result<(), ExplainError> {
     let starts = block_starts(alloc, program)?;
-    let marks = marked_path(alloc, &starts, path, refused)?;
+    let marks = marked_path(alloc, &starts, reached.path, refused)?;
+    let drawing = Drawing {
+        program,
+        starts: &starts,
+        marks: &marks,
+        reached,
+    };
     text!(out; "digraph program {{\n  node [shape=box, fontname=monospace];\n")?;
-    print_blocks(program, &starts, &marks, out)?;
-    print_arrows(program, &starts, path, out)?;
+    print_blocks(alloc, &drawing, out)?;
+    print_arrows(&drawing, out)?;
     text!(out; "}}\n")
 }
 
@@ -264,16 +317,25 @@ fn draw<W: Write>(
     requires { slot_count code.now ≤ MAX_SLOTS }
     ensures { IfOk result (IsDrawnCode code.now) }
 {
-    let Explanation { verdict, path, .. } = searched(alloc, code)?;
+    let Explanation {
+        verdict,
+        path,
+        firsts,
+        ..
+    } = searched(alloc, code)?;
     let program = Program::new(alloc, code)?;
+    let firsts = &firsts;
     match verdict {
         Ok(_) => {
-            print_graph(alloc, &program, &[], None, out)?;
+            let reached = Reached { path: &[], firsts };
+            print_graph(alloc, &program, reached, None, out)?;
             Ok(None)
         }
         Err(Refusal::Memory { .. }) => Err(ExplainError::Memory),
         Err(refusal) => {
-            print_graph(alloc, &program, &path, Some(slot_of(refusal)), out)?;
+            let path = &path;
+            let reached = Reached { path, firsts };
+            print_graph(alloc, &program, reached, Some(slot_of(refusal)), out)?;
             Ok(Some(refusal))
         }
     }
@@ -299,8 +361,9 @@ fn draw_file<W: Write>(
 }
 
 /// Prints the blocks of the program in a file and its jumps, as a text in the language DOT, and returns why the loader refuses the
-/// file, `None` where it accepts it. Each block has its instructions with their slots. Of a program that is refused, the path to the
-/// refusal is red. Of a file that encodes no program nothing is printed.
+/// file, `None` where it accepts it. Each block has its instructions with their slots, and before them what is known in the first state
+/// that reached it. Of a program that is refused, the path to the refusal is red, and its blocks have what is known on it. Of a file
+/// that encodes no program nothing is printed.
 ///
 /// # Errors
 /// Where the output can't be written, or memory runs out.

@@ -235,9 +235,9 @@ pub(crate) fn print_busiest<W: Write>(made: &mut [u32], out: &mut W) -> Result<(
     Ok(())
 }
 
-/// Returns the first state at a slot from which a step was made.
-fn first_at(firsts: &[Pending<Interval>], slot: usize) -> Option<&Pending<Interval>> {
-    firsts.iter().find(|first| first.slot == slot)
+/// Returns the first state at a slot, of a list of states.
+pub(crate) fn first_at(states: &[Pending<Interval>], slot: usize) -> Option<&Pending<Interval>> {
+    states.iter().find(|state| state.slot == slot)
 }
 
 /// Returns whether a step was made at a slot.

@@ -3,12 +3,14 @@
 ghost use Rattle.std.specs.Prelude.{◌≡◌, false, OnOk};
 
 use crate::options::{CommandError, Prepared, ProgramBytes};
-use crate::replay_command::{ReplayOptions, replay_fault};
+use crate::replay_command::{Maps, replay_fault};
+use crate::reports::print_annotated;
 use basics::streams::{Input, Output};
+use command_line::ReplayOptions;
 use insn::decode;
 use machine::{Kept, Side};
 use relay::{Relay, next_line};
-use report::{Coverage, report_end};
+use report::{Coverage, SourceMap, annotated, report_end};
 use std::alloc::{AllocError, Global};
 use std::io::{self, BufRead, BufWriter, Write};
 
@@ -53,12 +55,39 @@ fn print_run<'a, R: Print + AllocGlobal>(
     }
 }
 
+/// Prints each step of the run of the event of a line, and how it ended, with the lines of the source of its program.
+fn print_mapped_run<'a, R: Print + AllocGlobal>(
+    rt: &R,
+    relay: &mut Relay,
+    maps: &Maps<'_>,
+    line: &[u8],
+    number: u64,
+) -> Result<(), CommandError<'a>> {
+    let mut output = Output::new(Vec::new(rt.alloc()));
+    let Some((side, ended)) = relay.trace_line(line, &mut output) else {
+        return Err(CommandError::NoRun(number));
+    };
+    // a vector is full where memory runs out
+    if output.has_failed() || report_end(ended, &mut output).is_err() {
+        return Err(CommandError::Memory);
+    }
+    let run = output.into_inner();
+    match maps.of(side) {
+        Some(map) => print_annotated(rt, map, &run),
+        None => match io::writer(rt).write_all(&run) {
+            Ok(()) => Ok(()),
+            Err(_) => Err(CommandError::Output),
+        },
+    }
+}
+
 /// Replays the events before the line of this number, and prints the run of its event in place of answers.
 pub(crate) fn trace_event<'a, R: Print + AllocGlobal, B: BufRead + Drop>(
     rt: &R,
     relay: &mut Relay,
+    maps: &Maps<'_>,
     reader: B,
-    replay: ReplayOptions<'a>,
+    replay: &ReplayOptions<'a>,
     number: u64,
 ) -> Result<(), CommandError<'a>> {
     let mut input = Input::new(reader);
@@ -71,7 +100,11 @@ pub(crate) fn trace_event<'a, R: Print + AllocGlobal, B: BufRead + Drop>(
             Err(error) => return Err(replay_fault(error, replay.events)),
         }
         if count == number {
-            return print_run(rt, relay, &line, number);
+            return if maps.is_empty() {
+                print_run(rt, relay, &line, number)
+            } else {
+                print_mapped_run(rt, relay, maps, &line, number)
+            };
         }
         go_on(relay, &line, count, &mut output, false)?;
     }
@@ -105,12 +138,13 @@ impl Covered {
     }
 }
 
-/// Returns the text of what of the program of a side was met.
+/// Returns the text of what of the program of a side was met, with the lines of its source where there is a map.
 fn side_text(
     alloc: Global,
     programs: &ProgramBytes,
     side: Side,
     coverage: &Coverage,
+    map: Option<&SourceMap<'_>>,
 ) -> Result<String, AllocError> {
     let name = match side {
         Side::Client => "client's",
@@ -122,6 +156,10 @@ fn side_text(
         // the program was loaded before
         Err(_) => return Err(AllocError),
     };
+    let text = match map {
+        Some(map) => annotated(alloc, map, text.as_str())?,
+        None => text,
+    };
     format!(in alloc; "runs of the {name} program: {runs}\n{text}")
 }
 
@@ -130,10 +168,12 @@ fn print_covered<'a, E: Write>(
     alloc: Global,
     err: &mut E,
     programs: &ProgramBytes,
+    maps: &Maps<'_>,
     covered: &Covered,
 ) -> Result<(), CommandError<'a>> {
-    let client = side_text(alloc, programs, Side::Client, &covered.client);
-    let peer = side_text(alloc, programs, Side::Peer, &covered.peer);
+    let (client, peer) = (&covered.client, &covered.peer);
+    let client = side_text(alloc, programs, Side::Client, client, maps.of(Side::Client));
+    let peer = side_text(alloc, programs, Side::Peer, peer, maps.of(Side::Peer));
     let (Ok(client), Ok(peer)) = (client, peer) else {
         return Err(CommandError::Memory);
     };
@@ -147,7 +187,7 @@ fn cover_lines<'a, B: BufRead + Drop, W: Write>(
     relay: &mut Relay,
     input: &mut Input<B>,
     output: &mut Output<W>,
-    replay: ReplayOptions<'a>,
+    replay: &ReplayOptions<'a>,
 ) -> Result<Covered, CommandError<'a>>
     requires reads { input.old.failed ≡ false }
     requires writes { output.old.failed ≡ false }
@@ -175,8 +215,9 @@ pub(crate) fn cover_events<'a, R: Print + AllocGlobal, E: Write, B: BufRead + Dr
     rt: &R,
     err: &mut E,
     prepared: &mut Prepared,
+    maps: &Maps<'_>,
     reader: B,
-    replay: ReplayOptions<'a>,
+    replay: &ReplayOptions<'a>,
 ) -> Result<(), CommandError<'a>> {
     let Ok(writer) = BufWriter::new(rt.alloc(), io::writer(rt)) else {
         return Err(CommandError::Memory);
@@ -188,5 +229,5 @@ pub(crate) fn cover_events<'a, R: Print + AllocGlobal, E: Write, B: BufRead + Dr
     if output.has_failed() || output.flush().is_err() {
         return Err(CommandError::Output);
     }
-    print_covered(rt.alloc(), err, &prepared.programs, &covered?)
+    print_covered(rt.alloc(), err, &prepared.programs, maps, &covered?)
 }

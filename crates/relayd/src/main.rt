@@ -4,6 +4,7 @@
 
 mod check_command;
 mod clock;
+mod comparing;
 mod confinements;
 mod covering;
 mod explanations;
@@ -20,7 +21,7 @@ mod writing;
 use crate::check_command::{check, end};
 use crate::explanations::{explain, graph};
 use crate::options_file::further_words;
-use crate::replay_command::{ReplayOptions, replay};
+use crate::replay_command::replay;
 use crate::reports::{report_file, verify_file};
 use crate::serve_command::serve;
 use crate::trace_command::{Traced, trace};
@@ -104,7 +105,7 @@ fn run_subcommand<
     match subcommand {
         Subcommand::Verify { file, lines } => verify_file(rt, err, file, lines),
         Subcommand::Explain { file, slot, lines } => explain(rt, err, file, slot, lines),
-        Subcommand::Graph { file } => graph(rt, err, file),
+        Subcommand::Graph { file, lines } => graph(rt, err, file, lines),
         Subcommand::Trace {
             file,
             data,
@@ -144,24 +145,9 @@ fn run_subcommand<
             reorder_file(rt, err, files, from)
         }
         Subcommand::Replay {
-            events,
-            nonce,
-            why,
-            confine,
-            trace,
-            cover,
+            replay: asked,
             options,
-        } => {
-            let replayed = ReplayOptions {
-                events,
-                nonce,
-                why,
-                confine,
-                trace,
-                cover,
-            };
-            replay(rt, err, replayed, &options)
-        }
+        } => replay(rt, err, &asked, &options),
         Subcommand::Serve { server, options } => serve(rt, err, &server, &options),
         Subcommand::Check { server, user } => check(rt, err, server, user),
     }

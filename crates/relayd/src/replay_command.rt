@@ -1,29 +1,81 @@
 //! The command `replay`: replays the events of a file through a relay.
 
+use crate::comparing::{Relays, compare_events};
 use crate::covering::{cover_events, trace_event};
-use crate::options::{CommandError, Prepared, Relayed, set_up, unread};
+use crate::options::{CommandError, Prepared, ProgramBytes, Relayed, set_up, unread};
+use crate::reports::{map_of, read_lines};
 use basics::streams::{self, Output};
-use command_line::{Options, defaults};
+use command_line::{Options, ReplayOptions, defaults};
+use machine::Side;
 use relay::{Relay, ReplayError};
+use report::SourceMap;
+use std::alloc::Global;
 use std::fs;
 use std::io::{self, BufRead, BufReader, BufWriter, Write};
 use std::rt::Files;
 
-/// What is replayed.
-#[derive(Clone, Copy)]
-pub(crate) struct ReplayOptions<'a> {
-    /// The file of the events; `-` is standard input.
-    pub(crate) events: &'a str,
-    /// The first nonce.
-    pub(crate) nonce: &'a str,
-    /// Whether the reason of each answer is printed.
-    pub(crate) why: bool,
-    /// Whether the programs are confined.
-    pub(crate) confine: bool,
-    /// The line whose run is printed in place of the answers, if one is.
-    pub(crate) trace: Option<u64>,
-    /// Whether it is printed what of the programs the events met.
-    pub(crate) cover: bool,
+/// The texts of the source maps of the programs; `None` where none is given.
+#[derive(Drop)]
+pub(crate) struct MapTexts {
+    client: Option<String>,
+    peer: Option<String>,
+}
+
+/// The source maps of the programs; `None` where none is given.
+#[derive(Drop)]
+pub(crate) struct Maps<'t> {
+    client: Option<SourceMap<'t>>,
+    peer: Option<SourceMap<'t>>,
+}
+
+impl<'t> Maps<'t> {
+    /// Returns whether there is none.
+    pub(crate) fn is_empty(&self) -> bool {
+        self.client.is_none() && self.peer.is_none()
+    }
+
+    /// Returns the source map of the program of a side, if it is given.
+    pub(crate) fn of(&self, side: Side) -> Option<&SourceMap<'t>> {
+        match side {
+            Side::Client => self.client.as_ref(),
+            Side::Peer => self.peer.as_ref(),
+        }
+    }
+}
+
+/// Reads the text of a source map, if one is named.
+fn read_map<'a, R: Files + AllocGlobal>(
+    rt: &R,
+    path: Option<&'a str>,
+) -> Result<Option<String>, CommandError<'a>> {
+    match path {
+        Some(path) => Ok(Some(read_lines(rt, path)?)),
+        None => Ok(None),
+    }
+}
+
+/// Returns the source map of a text, if there is one, which has to be that of a program.
+fn map_for<'a, 't>(
+    alloc: Global,
+    text: &'t Option<String>,
+    program: &[u8],
+) -> Result<Option<SourceMap<'t>>, CommandError<'a>> {
+    match text {
+        Some(text) => Ok(Some(map_of(alloc, text.as_str(), program)?)),
+        None => Ok(None),
+    }
+}
+
+/// Returns the source maps of two programs.
+fn maps_of<'a, 't>(
+    alloc: Global,
+    texts: &'t MapTexts,
+    programs: &ProgramBytes,
+) -> Result<Maps<'t>, CommandError<'a>> {
+    Ok(Maps {
+        client: map_for(alloc, &texts.client, programs.of(Side::Client))?,
+        peer: map_for(alloc, &texts.peer, programs.of(Side::Peer))?,
+    })
 }
 
 /// Replays the events of a reader, prints the answers and flushes them.
@@ -32,7 +84,7 @@ fn play<'a, R: Print + AllocGlobal, B: BufRead + Drop>(
     rt: &R,
     relay: &mut Relay,
     reader: B,
-    replay: ReplayOptions<'a>,
+    replay: &ReplayOptions<'a>,
 ) -> Result<(), CommandError<'a>> {
     let Ok(writer) = BufWriter::new(rt.alloc(), io::writer(rt)) else {
         return Err(CommandError::Memory);
@@ -56,19 +108,42 @@ pub(crate) fn replay_fault<'a>(error: ReplayError, events: &'a str) -> CommandEr
     }
 }
 
-/// Replays the events of a reader as it is asked for: their answers, with what of the programs they met, or the run of one event.
+/// What is replayed: a relay, the source maps of its programs, and the relay with the programs that are compared, if there is one.
+#[derive(Drop)]
+struct Replayed<'r, 't> {
+    prepared: &'r mut Prepared,
+    maps: &'r Maps<'t>,
+    other: Option<&'r mut Prepared>,
+}
+
+/// Replays the events of a reader as it is asked for: the run of one event, the answers that differ, or all answers, with what of
+/// the programs the events met.
 fn play_as<'a, R: Print + AllocGlobal, E: Write, B: BufRead + Drop>(
     rt: &R,
     err: &mut E,
-    prepared: &mut Prepared,
+    replayed: Replayed<'_, '_>,
     reader: B,
-    replay: ReplayOptions<'a>,
+    replay: &ReplayOptions<'a>,
 ) -> Result<(), CommandError<'a>> {
-    match replay.trace {
-        Some(number) => trace_event(rt, &mut prepared.relay, reader, replay, number),
-        None if replay.cover => cover_events(rt, err, prepared, reader, replay),
-        None => play(rt, &mut prepared.relay, reader, replay),
+    let Replayed {
+        prepared,
+        maps,
+        other,
+    } = replayed;
+    if let Some(number) = replay.trace {
+        return trace_event(rt, &mut prepared.relay, maps, reader, replay, number);
     }
+    if let Some(other) = other {
+        let relays = Relays {
+            old: &mut prepared.relay,
+            new: &mut other.relay,
+        };
+        return compare_events(rt, relays, reader, replay.events);
+    }
+    if replay.cover {
+        return cover_events(rt, err, prepared, maps, reader, replay);
+    }
+    play(rt, &mut prepared.relay, reader, replay)
 }
 
 /// Replays the events of a file, or of standard input for the file `-`.
@@ -76,12 +151,12 @@ fn play_as<'a, R: Print + AllocGlobal, E: Write, B: BufRead + Drop>(
 fn replay_file<'a, R: Files + Input + Print + AllocGlobal, E: Write>(
     rt: &R,
     err: &mut E,
-    prepared: &mut Prepared,
-    replay: ReplayOptions<'a>,
+    replayed: Replayed<'_, '_>,
+    replay: &ReplayOptions<'a>,
 ) -> Result<(), CommandError<'a>> {
     if replay.events == "-" {
         return match BufReader::new(rt.alloc(), rt.reader()) {
-            Ok(reader) => play_as(rt, err, prepared, reader, replay),
+            Ok(reader) => play_as(rt, err, replayed, reader, replay),
             Err(_) => Err(CommandError::Memory),
         };
     }
@@ -90,31 +165,85 @@ fn replay_file<'a, R: Files + Input + Print + AllocGlobal, E: Write>(
         Err(error) => return Err(unread(&error, replay.events)),
     };
     match BufReader::new(rt.alloc(), file) {
-        Ok(reader) => play_as(rt, err, prepared, reader, replay),
+        Ok(reader) => play_as(rt, err, replayed, reader, replay),
         Err(_) => Err(CommandError::Memory),
     }
 }
 
-/// Replays events through the relay that the options describe.
+/// Replays events through two relays, the other one with the programs that are compared.
+fn replay_against<'a, R: Files + Input + Print + AllocGlobal, E: Write>(
+    rt: &R,
+    err: &mut E,
+    prepared: &mut Prepared,
+    maps: &Maps<'_>,
+    replay: &ReplayOptions<'a>,
+    options: &Options<'a>,
+) -> Result<(), CommandError<'a>> {
+    let others = Options {
+        client: replay.against.or(options.client),
+        peer: replay.against_peer.or(options.peer),
+        ..*options
+    };
+    let relayed = relayed_of(options);
+    let mut other = set_up(rt, &others, replay.nonce, relayed, replay.confine)?;
+    let replayed = Replayed {
+        prepared,
+        maps,
+        other: Some(&mut other),
+    };
+    replay_file(rt, err, replayed, replay)
+}
+
+/// Replays events through a relay, whose programs may have source maps.
+fn replay_mapped<'a, R: Files + Input + Print + AllocGlobal, E: Write>(
+    rt: &R,
+    err: &mut E,
+    prepared: &mut Prepared,
+    texts: &MapTexts,
+    replay: &ReplayOptions<'a>,
+    options: &Options<'a>,
+) -> Result<(), CommandError<'a>> {
+    let maps = maps_of(rt.alloc(), texts, &prepared.programs)?;
+    if replay.against.is_some() || replay.against_peer.is_some() {
+        return replay_against(rt, err, prepared, &maps, replay, options);
+    }
+    let replayed = Replayed {
+        prepared,
+        maps: &maps,
+        other: None,
+    };
+    replay_file(rt, err, replayed, replay)
+}
+
+/// Returns the relayed addresses of a replay.
+fn relayed_of(options: &Options<'_>) -> Relayed {
+    Relayed {
+        ip: options.relay_ip.unwrap_or(defaults::RELAY_IP).octets(),
+        ip6: options.relay_ip6,
+    }
+}
+
+/// Replays events through the relay that the options describe. The source maps are read first.
 fn replay_events<'a, R: Files + Input + Print + AllocGlobal, E: Write>(
     rt: &R,
     err: &mut E,
-    replay: ReplayOptions<'a>,
+    replay: &ReplayOptions<'a>,
     options: &Options<'a>,
 ) -> Result<(), CommandError<'a>> {
-    let relayed = Relayed {
-        ip: options.relay_ip.unwrap_or(defaults::RELAY_IP).octets(),
-        ip6: options.relay_ip6,
+    let texts = MapTexts {
+        client: read_map(rt, replay.client_lines)?,
+        peer: read_map(rt, replay.peer_lines)?,
     };
+    let relayed = relayed_of(options);
     let mut prepared = set_up(rt, options, replay.nonce, relayed, replay.confine)?;
-    replay_file(rt, err, &mut prepared, replay)
+    replay_mapped(rt, err, &mut prepared, &texts, replay, options)
 }
 
 /// Replays events, prints the answers, or the line of the first fault to `err`, and returns the exit status.
 pub(crate) fn replay<R: Files + Input + Print + AllocGlobal, E: Write>(
     rt: &R,
     err: &mut E,
-    replay: ReplayOptions<'_>,
+    replay: &ReplayOptions<'_>,
     options: &Options<'_>,
 ) -> u8 {
     match replay_events(rt, err, replay, options) {
