@@ -1,6 +1,6 @@
 -- A datagram of a source that is served: what its run decides is the outcome of the system with programs.
 use Rattle.std.proofs.Common.{◌≡◌, ℕ, List, length, Bool, true, false, refl, sym, ap, subst, ◌∙◌}
-use Rattle.std.specs.Prelude.{◌==◌, ◌&&◌, Option, None, if◌then◌else◌}
+use Rattle.std.specs.Prelude.{◌==◌, ◌&&◌, Option, None, Some, if◌then◌else◌}
 use Rattle.std.proofs.lemmas.Bool.{cond-false}
 use Rattle.semantics.specs.Runs.{Run, Ending}
 use Rattle.addresses.specs.declared.address.Addr.{Addr}
@@ -22,6 +22,7 @@ use Rattle.rules.specs.declared.confinement.Confinement.{Confinement}
 use Rattle.rules.specs.declared.disposition.Discard.TheVariants.{NotServed, ByProgram}
 use Rattle.rules.specs.declared.disposition.Disposition.{Disposition}
 use Rattle.rules.specs.declared.disposition.Disposition.TheVariants.{Discarded}
+use Rattle.relay.specs.EventRuns.{exit_verdict, verdict_of_datagram}
 use Rattle.relay.specs.Found.{HasRun, run_at, reply_of_passing, disposition_of_passing, window_shown}
 use Rattle.relay.specs.Relays.{RelayContents, state_of, datagram_at}
 use Rattle.relay.specs.Steps.{HasStepped, outcome_of, disposition_for, disposition_of_step}
@@ -75,6 +76,13 @@ module _ (was : RelayContents) (confinement : Option Confinement) (given : Meta)
   pub done_then : moment ≡ moment_of old.greatest given.now → done_at ≡ disposition_of_step old given n
   done_then is = ap (disposition_for old given n) is
 
+  -- the verdict at a moment
+  abbrev pub verdict_at : ℕ → Option ℕ
+  verdict_at m = if is_served given.from && is_there given.from old.rows then exit_verdict (run_at (record old { greatest = m }) given n).ending else None
+
+  pub verdict_then : moment ≡ moment_of old.greatest given.now → verdict_at moment ≡ verdict_of_datagram old given (datagram_at old n)
+  verdict_then is = ap verdict_at is
+
   if_both : {X : Type 0} (a b : Bool) (x y : X) → (a && b) ≡ true → (if a then (if b then x else y) else y) ≡ x
   if_both true true x y e = refl
   if_both true false x y e = absurd cc
@@ -100,27 +108,27 @@ module _ (was : RelayContents) (confinement : Option Confinement) (given : Meta)
       by_passing verdict = by_its_verdict ∙ ap (λ (v : ℕ). of_verdict passes sending given.from live (length (datagram_at old n)) r v) verdict
 
       -- a client's datagram is passed on
-      end_passes_client : (client : Addr) → given.from ≡ Client client → o.verdict ≡ PASSES → end ≡ passes client (datagram_of shown.frame)
+      pub end_passes_client : (client : Addr) → given.from ≡ Client client → o.verdict ≡ PASSES → end ≡ passes client (datagram_of shown.frame)
       end_passes_client client from verdict =
           by_passing verdict
           ∙ ap (λ (s : Source). of_passing passes sending s (datagram_in (length (datagram_at old n)) r.state)) from
           ∙ ap (passes client) (sym ran.datagram)
 
       -- a peer's is not
-      end_passes_peer : (slot : ℕ) (peer : Addr) → given.from ≡ Peer slot peer → o.verdict ≡ PASSES → end ≡ sending None
+      pub end_passes_peer : (slot : ℕ) (peer : Addr) → given.from ≡ Peer slot peer → o.verdict ≡ PASSES → end ≡ sending None
       end_passes_peer slot peer from verdict =
           by_passing verdict
           ∙ ap (λ (s : Source). of_passing passes sending s (datagram_in (length (datagram_at old n)) r.state)) from
 
       -- the plan is sent
-      end_sends : o.verdict ≡ SENDS → end ≡ sending (planned_sending given.from live o.destination (window_shown shown.frame))
+      pub end_sends : o.verdict ≡ SENDS → end ≡ sending (planned_sending given.from live o.destination (window_shown shown.frame))
       end_sends verdict =
           by_its_verdict
           ∙ ap (λ (v : ℕ). of_verdict passes sending given.from live (length (datagram_at old n)) r v) verdict
           ∙ (λ i. sending (planned_sending given.from live (sym ran.outcome.destination i) (sym ran.window i)))
 
       -- every other verdict discards
-      end_discards : (o.verdict == PASSES) ≡ false → (o.verdict == SENDS) ≡ false → end ≡ sending None
+      pub end_discards : (o.verdict == PASSES) ≡ false → (o.verdict == SENDS) ≡ false → end ≡ sending None
       end_discards no_pass no_send =
           by_its_verdict
           ∙ cond-false (o.verdict == PASSES) _ _ no_pass
@@ -141,6 +149,9 @@ module _ (was : RelayContents) (confinement : Option Confinement) (given : Meta)
 
       abbrev dispositions_of_sent : Option Sending → Disposition
       dispositions_of_sent = disposition_of_sent old.programs.confinement given.from live
+
+      pub verdict_is : Some o.verdict ≡ verdict_at moment
+      verdict_is = ap exit_verdict (sym ran.outcome.verdict) ∙ ap (λ (b : Bool). if b then exit_verdict r.ending else None) (sym served)
 
       no_reply : relays None ≡ no_answer old.rows
       no_reply = ap (reply_of_relaying old.rows) (nothing_through given.from live old.programs.confinement)

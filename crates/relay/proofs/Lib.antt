@@ -3,6 +3,7 @@ mod AfterRuns
 mod Asked
 mod BoundedAnswers
 mod ChangedRows
+mod ChosenRuns
 mod Confined
 mod Datagrams
 mod ExitReasons

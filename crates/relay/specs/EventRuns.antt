@@ -1,5 +1,5 @@
--- Meaning. The run that the step of an event makes, and what is reported of it.
-use Rattle.std.specs.Prelude.{◌≡◌, ℕ, List, Option, None, Some, Result}
+-- Meaning. The run that the step of an event makes, its verdict, and what is reported of it.
+use Rattle.std.specs.Prelude.{◌≡◌, ℕ, ◌&&◌, List, Option, None, Some, Result, if◌then◌else◌}
 use Rattle.tables.specs.Moments.{moment_of}
 use Rattle.tables.specs.Rows.{rows_at}
 use Rattle.events.specs.Events.{Event, Datagram, Nonce}
@@ -13,9 +13,11 @@ use Rattle.machine.specs.declared.context.Side.TheVariants as side
 use Rattle.machine.specs.declared.outcome.Outcome.{Outcome}
 use Rattle.machine.specs.declared.outcome.Stuck.{Stuck}
 use Rattle.programs.specs.Runs.{run_for}
-use Rattle.semantics.specs.Runs.{Run}
+use Rattle.rules.specs.Systems.{is_served}
+use Rattle.semantics.specs.Runs as runs
+use Rattle.semantics.specs.Runs.{Ending, Run}
 use Rattle.semantics.specs.declared.fetching.Visit.{Visit}
-use Rattle.relay.specs.ByPrograms.{program_for}
+use Rattle.relay.specs.ByPrograms.{is_there, program_for}
 
 -- the side that a datagram comes from
 abbrev pub side_of : Source → Side
@@ -27,7 +29,18 @@ abbrev pub run_of_datagram : RelayContents → Meta → List ℕ → Run
 run_of_datagram r given bytes =
     run_for (program_for r.programs given.from) given.tx given.from (rows_at (moment_of r.greatest given.now) r.rows) bytes
 
--- that of an event, if it is a datagram
+-- the verdict of a run that exits
+abbrev pub exit_verdict : Ending → Option ℕ
+exit_verdict (runs.Exited verdict) = Some verdict
+exit_verdict (runs.Stuck reason slot) = None
+exit_verdict runs.Running = None
+
+-- the verdict of that run; a source that isn't served has none, since no program runs
+abbrev pub verdict_of_datagram : RelayContents → Meta → List ℕ → Option ℕ
+verdict_of_datagram r given bytes =
+    if is_served given.from && is_there given.from r.rows then exit_verdict (run_of_datagram r given bytes).ending else None
+
+-- the run of an event, if it is a datagram
 abbrev pub run_of_event : RelayContents → Option Event → Option (Side × Run)
 run_of_event r None = None
 run_of_event r (Some (Nonce text)) = None

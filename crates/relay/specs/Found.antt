@@ -1,5 +1,5 @@
 -- Internal. What is to be sent for what was found.
-use Rattle.std.specs.Prelude.{◌≡◌, ℕ, List, Bool, true, ◌||◌, is_some, Option, None, Some, option_map, if◌then◌else◌}
+use Rattle.std.specs.Prelude.{◌≡◌, ℕ, List, Bool, true, false, ◌||◌, is_some, Option, None, Some, option_map, if◌then◌else◌}
 use Rattle.addresses.specs.declared.address.Addr.{Addr}
 use Rattle.machine.specs.Contents as machine
 use Rattle.machine.specs.Contents.{datagram_of, window_of}
@@ -70,6 +70,14 @@ sending_of_found r from (found.WindowToPeer slot peer) = option_map (ToPeer slot
 sending_of_found r from (found.WindowToClient client) = option_map (ToClient client) (window_shown r.frame)
 sending_of_found r (Client client) (found.Answer answer) = sending_of_answer client (datagram_of r.frame) r.reply answer
 sending_of_found r (Peer slot peer) (found.Answer answer) = None
+
+-- whether it is of the window, rather than an answer of the rules
+abbrev pub is_of_window : Found → Bool
+is_of_window (found.Nothing reason) = true
+is_of_window found.Stopped = true
+is_of_window (found.WindowToPeer slot peer) = true
+is_of_window (found.WindowToClient client) = true
+is_of_window (found.Answer answer) = false
 
 -- what confines programs, where it is asked
 abbrev pub asked : Bool → Option Confinement → Option Confinement

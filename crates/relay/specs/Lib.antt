@@ -1,6 +1,7 @@
 -- Internal. The modules of this folder.
 pub mod Amplification
 pub mod ByPrograms
+pub mod Choices
 pub mod Confinement
 pub mod Errors
 pub mod EventRuns
@@ -8,6 +9,7 @@ pub mod Found
 pub mod Grounds
 pub mod Harmless
 pub mod KeysCompared
+pub mod Lent
 pub mod ReadLines
 pub mod ReasonTexts
 pub mod Reasons

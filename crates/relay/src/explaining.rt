@@ -126,7 +126,7 @@ pub fn law_reasons_are_of_the_answers()
 {}
 
 /// Returns the side that a datagram comes from.
-fn side_of(from: &Source) -> Side
+pub fn side_of(from: &Source) -> Side
     ensures { result ≡ side_of from.now }
 {
     match from {

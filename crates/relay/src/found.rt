@@ -1,6 +1,6 @@
 //! What a step finds, before it is lent.
 
-ghost use Rattle.std.specs.Prelude.{◌≡◌, ◌≤◌, ◌+◌, ℕ, List, option_map, option_copied};
+ghost use Rattle.std.specs.Prelude.{◌≡◌, ◌≤◌, ◌+◌, ℕ, List, true, option_map, option_copied};
 ghost use Rattle.tables.specs.Rows.{rows_at};
 ghost use Rattle.tables.specs.WellFormed.{AreWellFormed};
 ghost use Rattle.events.specs.Actions.{sending_of};
@@ -8,7 +8,7 @@ ghost use Rattle.events.specs.Events.{ToClient, ToPeer};
 ghost use Rattle.programs.specs.Runs.{planned_sending};
 ghost use Rattle.relay.specs.ByPrograms.{disposition_of_sent, let_through};
 ghost use Rattle.relay.specs.KeysCompared.{keys_of_permitting};
-ghost use Rattle.relay.specs.Found.{asked, disposition_of_found, may_come, may_go, sending_of_found, held_for, window_shown, HasRoomFor};
+ghost use Rattle.relay.specs.Found.{asked, disposition_of_found, is_of_window, may_come, may_go, sending_of_found, held_for, window_shown, HasRoomFor};
 ghost use Rattle.relay.specs.Relays.{RelayContents};
 
 use attributes::Addr;
@@ -29,6 +29,14 @@ pub(crate) enum Found {
     WindowToClient { client: Addr },
     /// What the rules answer to a client's datagram.
     Answer(Answer),
+}
+
+/// What a step finds, and the verdict of the program that ran.
+#[derive(Clone, Copy)]
+pub(crate) struct Decided {
+    pub(crate) found: Found,
+    /// `None` where no program ran.
+    pub(crate) verdict: Option<u64>,
 }
 
 /// Returns whether data may go to a peer: anywhere, where programs are not confined, or where that isn't asked.
@@ -94,6 +102,7 @@ pub(crate) fn window_found<C: Count>(
         → live.now ≡ held_for from.now (rows_at r.greatest r.rows)
         → disposition_of_found r from.now result ≡ disposition_of_sent (asked asks confinement.now) from.now (rows_at r.greatest r.rows)
         (planned_sending from.now (rows_at r.greatest r.rows) destination (window_shown r.frame)) }
+    ensures window { is_of_window result ≡ true }
     ensures room { (reply : List ℕ) → HasRoomFor result reply }
     ensures keys { C.count keys.new ≤ C.count keys.old + keys_of_permitting confinement.now }
 {

@@ -2,6 +2,7 @@
 #![tactic(auto)]
 
 mod amplification;
+mod choosing;
 mod confining;
 mod error;
 mod explaining;
@@ -18,10 +19,11 @@ mod shipped;
 mod step;
 
 pub use amplification::law_no_program_amplifies;
+pub use choosing::{Choice, law_same_choices_are_same_steps};
 pub use confining::law_confined_programs_send_what_is_permitted;
 pub use error::RelayError;
 pub use events::{Action, Meta, Source};
-pub use explaining::law_reasons_are_of_the_answers;
+pub use explaining::{law_reasons_are_of_the_answers, side_of};
 pub use isolation::law_programs_keep_users_apart;
 pub use lines::next_line;
 pub use reason::{Reason, Unsent};

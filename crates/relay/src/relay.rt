@@ -7,7 +7,7 @@ ghost use Rattle.relay.specs.ByPrograms.{is_there};
 
 use crate::error::RelayError;
 use crate::explaining::{Grounds, LastSlot, unsent_at};
-use crate::found::{Found, window_found, window_to_client, window_to_peer};
+use crate::found::{Decided, Found, window_found, window_to_client, window_to_peer};
 use crate::running::{context_for, live_for, program_for, run_over, trace_over};
 use crate::shipped::are_shipped;
 use crate::step::{Step, discarded, relayed, stopped};
@@ -24,6 +24,7 @@ use rules::{Answer, Confinement, Discard, answer_client, discard_by_rules};
 use std::alloc::Global;
 use std::marker::Model;
 use tables::{Count, Tables, Uncounted, is_ipv4, moment_of};
+use verifier::Verified;
 
 /// A relay: its configuration, the programs of both sides, what confines them, and its tables.
 /// See docs/DECISIONS.md, "The greatest moment is the relay's".
@@ -67,7 +68,7 @@ impl Model for Relay {
 }
 
 /// Returns whether a source is served: a client over IPv4, or a peer whose slot is there.
-fn is_served(from: &Source, tables: &Tables) -> bool
+pub(crate) fn is_served(from: &Source, tables: &Tables) -> bool
     ensures { result ≡ is_served from.now && is_there from.now tables.now }
 {
     match *from {
@@ -87,11 +88,12 @@ impl Relay {
     ghost use Rattle.tables.specs.Addresses.{is_ipv4};
     ghost use Rattle.semantics.specs.declared.limits.TheConstants.{MAX_DATAGRAM};
     ghost use Rattle.events.specs.Actions.{sending_of};
+    ghost use Rattle.relay.specs.ByPrograms.{program_for};
     ghost use Rattle.relay.specs.Errors.{IsFault};
     ghost use Rattle.machine.specs.Contents.{datagram_of};
     ghost use Rattle.rules.specs.Answers.{sending_of_answer, LiesInRoom};
     ghost use Rattle.relay.specs.Found.{disposition_of_found, disposition_of_passing, sending_of_found, reply_of_passing, HasRoomFor};
-    ghost use Rattle.relay.specs.EventRuns.{run_of_datagram};
+    ghost use Rattle.relay.specs.EventRuns.{run_of_datagram, verdict_of_datagram};
     ghost use Rattle.relay.specs.Grounds.{grounds_of};
     ghost use Rattle.machine.specs.Tracing.{EndsWith, Reports};
     ghost use Rattle.relay.specs.Relays.{state_of, datagram_at};
@@ -156,11 +158,40 @@ impl Relay {
         &self.tables
     }
 
+    /// Returns the room for a datagram, 65,507 bytes.
+    pub fn room(&self) -> &[u8]
+        ensures value { result.now ≡ room_of self.now.frame }
+        ensures len { length result.now ≡ MAX_DATAGRAM }
+    {
+        self.frame.room()
+    }
+
     /// Returns the frame.
     pub(crate) fn frame(&self) -> &Frame
         ensures { result.now ≡ self.now.frame }
     {
         &self.frame
+    }
+
+    /// Returns the greatest moment that was seen.
+    pub(crate) fn greatest(&self) -> u64
+        ensures { result ≡ self.now.greatest }
+    {
+        self.greatest
+    }
+
+    /// Returns what confines the programs, if anything does.
+    pub(crate) fn confinement(&self) -> &Option<Confinement>
+        ensures { result.now ≡ self.now.programs.confinement }
+    {
+        &self.confinement
+    }
+
+    /// Returns the program of the side of a source.
+    pub fn program_of(&self, from: &Source) -> &Verified
+        ensures { result.now ≡ program_for self.now.programs from.now }
+    {
+        program_for(&self.client, &self.peer, from)
     }
 
     /// Returns the number of slots.
@@ -311,6 +342,7 @@ impl Relay {
         requires { n ≤ MAX_DATAGRAM }
         ensures answer { sending_of result.action ≡ (outcome_of self.old meta n).answer }
         ensures disposition { result.disposition ≡ disposition_of_step self.old meta n }
+        ensures verdict { result.verdict ≡ verdict_of_datagram self.old meta (datagram_at self.old n) }
         ensures rules { AreShipped self.old.programs → outcome_of self.old meta n ≡ ruled_outcome_of self.old meta n }
         ensures harmless { IsHarmless self.old.programs self.old.config (state_of self.old) meta (datagram_at self.old n)
             (sending_of result.action) }
@@ -318,33 +350,36 @@ impl Relay {
     {
         self.law_steps_by_rules(&meta, n);
         self.law_steps_are_harmless(&meta, n);
-        let found = self.decide(&meta, n);
+        let decided = self.decide(&meta, n);
         let relay = &*self;
-        relay.lend(&meta.from, found)
+        relay.lend(&meta.from, decided)
     }
 
     /// Lends the bytes of what was found for a datagram of a source.
     #[inline(always)]
-    fn lend(&self, from: &Source, found: Found) -> Step<'_>
-        requires { HasRoomFor found self.now.reply }
-        ensures answer { sending_of result.action ≡ sending_of_found self.now from.now found }
-        ensures disposition { result.disposition ≡ disposition_of_found self.now from.now found }
+    fn lend(&self, from: &Source, decided: Decided) -> Step<'_>
+        requires { HasRoomFor decided.found self.now.reply }
+        ensures answer { sending_of result.action ≡ sending_of_found self.now from.now decided.found }
+        ensures disposition { result.disposition ≡ disposition_of_found self.now from.now decided.found }
+        ensures verdict { result.verdict ≡ decided.verdict }
     {
+        let Decided { found, verdict } = decided;
         match found {
-            Found::Nothing(reason) => discarded(reason),
-            Found::Stopped => stopped(self.frame.window()),
+            Found::Nothing(reason) => discarded(reason, verdict),
+            Found::Stopped => stopped(self.frame.window(), verdict),
             Found::WindowToPeer { slot, peer } => {
-                relayed(window_to_peer(slot, peer, self.frame.window()))
+                relayed(window_to_peer(slot, peer, self.frame.window()), verdict)
             }
             Found::WindowToClient { client } => {
-                relayed(window_to_client(client, self.frame.window()))
+                relayed(window_to_client(client, self.frame.window()), verdict)
             }
             Found::Answer(answer) => match *from {
                 Source::Client(client) => Step {
                     action: answer.action(client, self.frame.datagram(), &self.reply),
                     disposition: answer.disposition(),
+                    verdict,
                 },
-                Source::Peer { .. } => discarded(Discard::ByProgram),
+                Source::Peer { .. } => discarded(Discard::ByProgram, verdict),
             },
         }
     }
@@ -352,13 +387,15 @@ impl Relay {
     /// Changes all that a datagram changes, and finds what is to be sent. The shipped programs send only what is permitted, so
     /// with them no permission is looked up for it.
     #[inline(always)]
-    fn decide(&mut self, meta: &Meta, n: usize) -> Found
+    fn decide(&mut self, meta: &Meta, n: usize) -> Decided
         requires { n ≤ MAX_DATAGRAM }
         ensures stepped { HasStepped self.old self.new (outcome_of self.old meta.entry.now n) }
-        ensures found { sending_of_found self.new meta.entry.now.from result ≡ (outcome_of self.old meta.entry.now n).answer }
-        ensures disposition { disposition_of_found self.new meta.entry.now.from result
+        ensures found { sending_of_found self.new meta.entry.now.from result.found
+            ≡ (outcome_of self.old meta.entry.now n).answer }
+        ensures disposition { disposition_of_found self.new meta.entry.now.from result.found
             ≡ disposition_of_step self.old meta.entry.now n }
-        ensures room { HasRoomFor result self.new.reply }
+        ensures verdict { result.verdict ≡ verdict_of_datagram self.old meta.entry.now (datagram_at self.old n) }
+        ensures room { HasRoomFor result.found self.new.reply }
     {
         self.law_shipped_are_unconfined(meta, n);
         self.advance(meta, n, !self.are_shipped, &mut Uncounted)
@@ -368,39 +405,51 @@ impl Relay {
     /// compared to find the slot, to relay by the rules, and to ask what is permitted. The helpers that the program calls compare
     /// at most 7 each ([`Lookup::look_up`]), and a request's look-ups at most 9 each.
     #[inline(always)]
-    fn advance<C: Count>(&mut self, meta: &Meta, n: usize, asks: bool, keys: &mut C) -> Found
+    fn advance<C: Count>(&mut self, meta: &Meta, n: usize, asks: bool, keys: &mut C) -> Decided
         requires { n ≤ MAX_DATAGRAM }
         ensures stepped { HasStepped self.old self.new (outcome_of (asking asks self.old) meta.entry.now n) }
-        ensures found { sending_of_found self.new meta.entry.now.from result
+        ensures found { sending_of_found self.new meta.entry.now.from result.found
             ≡ (outcome_of (asking asks self.old) meta.entry.now n).answer }
-        ensures disposition { disposition_of_found self.new meta.entry.now.from result
+        ensures disposition { disposition_of_found self.new meta.entry.now.from result.found
             ≡ disposition_of_step (asking asks self.old) meta.entry.now n }
-        ensures room { HasRoomFor result self.new.reply }
+        ensures verdict { result.verdict
+            ≡ verdict_of_datagram (asking asks self.old) meta.entry.now (datagram_at self.old n) }
+        ensures room { HasRoomFor result.found self.new.reply }
         ensures keys { C.count keys.new ≤ C.count keys.old + keys_of_step self.old.programs.confinement }
     {
         self.greatest = moment_of(self.greatest, meta.now);
         if !is_served(&meta.from, &self.tables) {
-            return Found::Nothing(Discard::NotServed);
+            return Decided {
+                found: Found::Nothing(Discard::NotServed),
+                verdict: None,
+            };
         }
         self.tables.law_are_well_formed();
         let helpers = Lookup::new(live_for(&self.tables, self.greatest, &meta.from, keys));
         let program = program_for(&self.client, &self.peer, &meta.from);
         let context = context_for(&meta.tx, &meta.from);
         let outcome = run_over(program, &mut self.frame, &helpers, &context, n);
+        let verdict = Some(outcome.verdict);
         match outcome.verdict {
             PASSES => match meta.from {
-                Source::Client(client) => Found::Answer(self.pass_on(client, keys)),
-                Source::Peer { .. } => Found::Nothing(Discard::ByProgram),
+                Source::Client(client) => Decided {
+                    found: Found::Answer(self.pass_on(client, keys)),
+                    verdict,
+                },
+                Source::Peer { .. } => Decided {
+                    found: Found::Nothing(Discard::ByProgram),
+                    verdict,
+                },
             },
-            SENDS => window_found(
-                &meta.from,
-                &helpers.live,
-                outcome.destination,
-                &self.confinement,
-                asks,
-                keys,
-            ),
-            _ => Found::Nothing(Discard::ByProgram),
+            SENDS => {
+                let (live, to) = (&helpers.live, outcome.destination);
+                let found = window_found(&meta.from, live, to, &self.confinement, asks, keys);
+                Decided { found, verdict }
+            }
+            _ => Decided {
+                found: Found::Nothing(Discard::ByProgram),
+                verdict,
+            },
         }
     }
 

@@ -16,13 +16,16 @@ pub struct Step<'a> {
     pub action: Action<'a>,
     /// What was done with the datagram.
     pub disposition: Disposition,
+    /// The verdict of the program that ran over the datagram; `None` where its source isn't served, so that none ran.
+    pub verdict: Option<u64>,
 }
 
 /// Returns the step of a program that sends this.
 #[inline(always)]
-pub(crate) fn relayed(action: Action<'_>) -> Step<'_>
+pub(crate) fn relayed(action: Action<'_>, verdict: Option<u64>) -> Step<'_>
     ensures action { sending_of result.action ≡ sending_of action.entry }
     ensures disposition { result.disposition ≡ relayed_where_sent (sending_of action.entry) }
+    ensures verdict { result.verdict ≡ verdict }
 {
     let disposition = match action {
         Action::Nothing => Disposition::Discarded(Discard::ByProgram),
@@ -31,27 +34,31 @@ pub(crate) fn relayed(action: Action<'_>) -> Step<'_>
     Step {
         action,
         disposition,
+        verdict,
     }
 }
 
 /// Returns the step that sends nothing, for a reason.
-pub(crate) fn discarded<'a>(reason: Discard) -> Step<'a>
+pub(crate) fn discarded<'a>(reason: Discard, verdict: Option<u64>) -> Step<'a>
     ensures action { sending_of result.action ≡ None }
     ensures disposition { result.disposition ≡ Discarded reason }
+    ensures verdict { result.verdict ≡ verdict }
 {
     Step {
         action: Action::Nothing,
         disposition: Disposition::Discarded(reason),
+        verdict,
     }
 }
 
 /// Returns the step that sends nothing of a window that the client hasn't permitted.
-pub(crate) fn stopped<'a>(window: Option<&[u8]>) -> Step<'a>
+pub(crate) fn stopped<'a>(window: Option<&[u8]>, verdict: Option<u64>) -> Step<'a>
     ensures action { sending_of result.action ≡ None }
     ensures disposition { result.disposition ≡ stopped_where_shown (option_copied window.entry) }
+    ensures verdict { result.verdict ≡ verdict }
 {
     match window {
-        Some(_) => discarded(Discard::Confined),
-        None => discarded(Discard::ByProgram),
+        Some(_) => discarded(Discard::Confined, verdict),
+        None => discarded(Discard::ByProgram, verdict),
     }
 }

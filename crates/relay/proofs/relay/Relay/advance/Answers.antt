@@ -4,6 +4,7 @@ use Rattle.tables.specs.laws.WellFormed.{rows_at-well_formed}
 use Rattle.events.specs.declared.meta.Source.{Source}
 use Rattle.programs.specs.Runs.{planned_sending}
 use Rattle.relay.specs.ByPrograms.{let_through}
+use Rattle.relay.specs.EventRuns.{verdict_of_datagram}
 use Rattle.relay.specs.Found.{asked, reply_of_passing, run_at, sending_of_found, disposition_of_found, window_shown, HasRun}
 use Rattle.relay.specs.Relays.{RelayContents, datagram_at}
 use Rattle.relay.specs.KeysCompared.{keys_of_step}
@@ -12,7 +13,7 @@ use Rattle.rules.specs.Systems.{SystemReply, no_answer, reply_of_relaying}
 use Rattle.relay.specs.Unconfined.{asking}
 use Rattle.relay.specs.contracts.relay.Relay.{the_view}
 use Rattle.relay.specs.declared.found.Found.TheVariants as found
-use Rattle.relay.proofs.Advances.{reply_at, steps, stays, answers, passes_client, passes_peer, sends, discards, done_then, does_pass_client, does_pass_peer, does_send, does_discard}
+use Rattle.relay.proofs.Advances.{reply_at, steps, stays, answers, passes_client, passes_peer, sends, discards, done_then, does_pass_client, does_pass_peer, does_send, does_discard, verdict_is, verdict_then}
 use Rattle.relay.proofs.KeyCounts.{by_asking, by_rules, slot_alone}
 use Rattle.relay.proofs.LiveSlots.{ran_at}
 use Rattle.relay.proofs.relay.Relay.advance.Goals as goal
@@ -79,7 +80,7 @@ returns-in-Peer-clause-found g c =
 
 -- ---- where the plan is sent
 
-plan_reply : (g : _) (c : goal.After-window_found g) → reply_at (the_view c.self.inside) (asked c.args.asks c.self.inside.confinement) c.args.meta.now c.args.n c.moment_of-self-inside.result
+plan_reply : (g : _) (c : goal.After-window_found-found g) → reply_at (the_view c.self.inside) (asked c.args.asks c.self.inside.confinement) c.args.meta.now c.args.n c.moment_of-self-inside.result
     ≡ reply_of_relaying c.self.inside.tables (let_through (asked c.args.asks c.self.inside.confinement) c.args.meta.now.from (rows_at c.moment_of-self-inside.result c.self.inside.tables)
     (planned_sending c.args.meta.now.from (rows_at c.moment_of-self-inside.result c.self.inside.tables) c.run_over-outcome.result.destination (window_shown c.run_over-outcome.new.frame)))
 plan_reply g c =
@@ -95,7 +96,7 @@ returns-in-2-clause-stepped g c =
 
 pub returns-in-2-clause-found : goal.returns-in-2-clause-found
 returns-in-2-clause-found g c =
-    c.window_found.ensures.sends (shown g c.before.before.before.before.before)
+    c.window_found-found.ensures.sends (shown g c.before.before.before.before.before)
     (rows_at-well_formed c.moment_of-self-inside.result c.self.inside.tables c.law_are_well_formed.ensures) (c.new-helpers.ensures ∙ c.live_for.ensures.live)
     ∙ sym (ap (λ (r : SystemReply). r.answer) (plan_reply g c))
     ∙ answers (the_view c.self.inside) (asked c.args.asks c.self.inside.confinement) c.args.meta.now c.args.n c.moment_of-self-inside.result c.moment_of-self-inside.ensures
@@ -142,7 +143,7 @@ returns-in-Peer-clause-disposition g c =
 
 pub returns-in-2-clause-disposition : goal.returns-in-2-clause-disposition
 returns-in-2-clause-disposition g c =
-    c.window_found.ensures.disposition (shown g c.before.before.before.before.before)
+    c.window_found-found.ensures.disposition (shown g c.before.before.before.before.before)
     (rows_at-well_formed c.moment_of-self-inside.result c.self.inside.tables c.law_are_well_formed.ensures) (c.new-helpers.ensures ∙ c.live_for.ensures.live)
     ∙ sym (does_send (the_view c.self.inside) (asked c.args.asks c.self.inside.confinement) c.args.meta.now c.args.n c.moment_of-self-inside.result c.run_over-outcome.result (shown g c.before.before.before.before.before) (ran g c.before.before.before.before.before) (search rules) c.in-2.is)
     ∙ done_then (the_view c.self.inside) (asked c.args.asks c.self.inside.confinement) c.args.meta.now c.args.n c.moment_of-self-inside.result c.moment_of-self-inside.ensures
@@ -154,6 +155,36 @@ returns-in_default-clause-disposition g c =
     (ran g c.before) (search rules) (search rules) (search rules))
     ∙ done_then (the_view c.self.inside) (asked c.args.asks c.self.inside.confinement) c.args.meta.now c.args.n c.moment_of-self-inside.result c.moment_of-self-inside.ensures
     ∙ (λ i. disposition_of_step (asking c.args.asks (c.self.view_is i)) c.args.meta.now c.args.n)
+
+-- ---- the verdict
+
+pub returns-in-Client-clause-verdict : goal.returns-in-Client-clause-verdict
+returns-in-Client-clause-verdict g c =
+    verdict_is (the_view c.self.inside) (asked c.args.asks c.self.inside.confinement) c.args.meta.now c.args.n c.moment_of-self-inside.result c.run_over-outcome.result (shown g c.before.before.before.before.before)
+    (ran g c.before.before.before.before.before) (search rules)
+    ∙ verdict_then (the_view c.self.inside) (asked c.args.asks c.self.inside.confinement) c.args.meta.now c.args.n c.moment_of-self-inside.result c.moment_of-self-inside.ensures
+    ∙ (λ i. verdict_of_datagram (asking c.args.asks (c.self.view_is i)) c.args.meta.now (datagram_at (c.self.view_is i) c.args.n))
+
+pub returns-in-Peer-clause-verdict : goal.returns-in-Peer-clause-verdict
+returns-in-Peer-clause-verdict g c =
+    verdict_is (the_view c.self.inside) (asked c.args.asks c.self.inside.confinement) c.args.meta.now c.args.n c.moment_of-self-inside.result c.run_over-outcome.result (shown g c.before.before)
+    (ran g c.before.before) (search rules)
+    ∙ verdict_then (the_view c.self.inside) (asked c.args.asks c.self.inside.confinement) c.args.meta.now c.args.n c.moment_of-self-inside.result c.moment_of-self-inside.ensures
+    ∙ (λ i. verdict_of_datagram (asking c.args.asks (c.self.view_is i)) c.args.meta.now (datagram_at (c.self.view_is i) c.args.n))
+
+pub returns-in-2-clause-verdict : goal.returns-in-2-clause-verdict
+returns-in-2-clause-verdict g c =
+    verdict_is (the_view c.self.inside) (asked c.args.asks c.self.inside.confinement) c.args.meta.now c.args.n c.moment_of-self-inside.result c.run_over-outcome.result (shown g c.before.before.before.before.before)
+    (ran g c.before.before.before.before.before) (search rules)
+    ∙ verdict_then (the_view c.self.inside) (asked c.args.asks c.self.inside.confinement) c.args.meta.now c.args.n c.moment_of-self-inside.result c.moment_of-self-inside.ensures
+    ∙ (λ i. verdict_of_datagram (asking c.args.asks (c.self.view_is i)) c.args.meta.now (datagram_at (c.self.view_is i) c.args.n))
+
+pub returns-in_default-clause-verdict : goal.returns-in_default-clause-verdict
+returns-in_default-clause-verdict g c =
+    verdict_is (the_view c.self.inside) (asked c.args.asks c.self.inside.confinement) c.args.meta.now c.args.n c.moment_of-self-inside.result c.run_over-outcome.result (shown g c.before)
+    (ran g c.before) (search rules)
+    ∙ verdict_then (the_view c.self.inside) (asked c.args.asks c.self.inside.confinement) c.args.meta.now c.args.n c.moment_of-self-inside.result c.moment_of-self-inside.ensures
+    ∙ (λ i. verdict_of_datagram (asking c.args.asks (c.self.view_is i)) c.args.meta.now (datagram_at (c.self.view_is i) c.args.n))
 
 -- ---- how many keys are compared
 
@@ -169,8 +200,8 @@ returns-in-Peer-clause-keys g c =
 
 pub returns-in-2-clause-keys : goal.returns-in-2-clause-keys
 returns-in-2-clause-keys g c =
-    let P : RelayContents → Type 0 = λ r. g.C.Count.count c.window_found.new.keys ≤ g.C.Count.count c.args.keys.now + keys_of_step r.programs.confinement in
-    subst P c.self.view_is (by_asking c.self.inside.confinement _ _ c.live_for.ensures.keys _ c.window_found.ensures.keys)
+    let P : RelayContents → Type 0 = λ r. g.C.Count.count c.window_found-found.new.keys ≤ g.C.Count.count c.args.keys.now + keys_of_step r.programs.confinement in
+    subst P c.self.view_is (by_asking c.self.inside.confinement _ _ c.live_for.ensures.keys _ c.window_found-found.ensures.keys)
 
 pub returns-in_default-clause-keys : goal.returns-in_default-clause-keys
 returns-in_default-clause-keys g c =

@@ -1,11 +1,11 @@
 use Rattle.std.proofs.Common.{◌≡◌, false, not, subst, ap, ◌∙◌}
 use Rattle.std.proofs.lemmas.Bool.{not-false}
-use Rattle.relay.specs.Relays.{RelayContents}
+use Rattle.relay.specs.Relays.{RelayContents, datagram_at}
 use Rattle.relay.specs.Shipped.{AreShipped}
 use Rattle.relay.specs.Steps.{HasStepped}
 use Rattle.relay.specs.Unconfined.{IsSameUnconfined}
 use Rattle.rules.specs.Systems.{SystemOutcome}
-use Rattle.relay.proofs.Asked.{same_disposition, same_outcome}
+use Rattle.relay.proofs.Asked.{same_disposition, same_outcome, same_verdict}
 use Rattle.relay.proofs.relay.Relay.decide.Goals as goal
 
 -- with the shipped programs, which aren't asked for, the relay does the same unconfined
@@ -25,3 +25,7 @@ returns-clause-found c =
 pub returns-clause-disposition : goal.returns-clause-disposition
 returns-clause-disposition c =
     c.advance-2.ensures.disposition ∙ same_disposition (not c.advance.inside.are_shipped) c.args.self.now c.args.meta.now c.args.n (same c)
+
+pub returns-clause-verdict : goal.returns-clause-verdict
+returns-clause-verdict c =
+    c.advance-2.ensures.verdict ∙ same_verdict (not c.advance.inside.are_shipped) c.args.self.now c.args.meta.now (datagram_at c.args.self.now c.args.n)

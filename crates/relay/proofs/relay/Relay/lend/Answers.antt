@@ -6,7 +6,7 @@ use Rattle.relay.specs.Found.{sending_of_found, disposition_of_found}
 use Rattle.relay.proofs.relay.Relay.lend.Goals as goal
 
 -- what is sent to the client
-sent : (c : goal.After-relayed-in-WindowToClient) → sending_of c.window_to_client.result ≡ sending_of_found c.args.self.now c.args.from.now c.args.found
+sent : (c : goal.After-relayed-in-WindowToClient) → sending_of c.window_to_client.result ≡ sending_of_found c.args.self.now c.args.from.now c.args.decided.found
 sent c =
     c.window_to_client.ensures
     ∙ ap (option_map (ToClient c.in-WindowToClient.client)) c.window-in-WindowToClient.ensures
