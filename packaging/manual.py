@@ -60,7 +60,9 @@ BEYOND = {
         ("relayd explain client.bpf", "Prints the path to the instruction that is refused."),
         ("relayd explain --slot 3 client.bpf", "Prints what the verifier knew at slot 3."))),
     "graph": Beyond("docs/C.md", examples=(
-        ("relayd graph client.bpf | dot -Tsvg >client.svg", "Draws the blocks of a program and its jumps, by Graphviz."),)),
+        ("relayd graph client.bpf | dot -Tsvg >client.svg",
+         "Draws the blocks of a program, each with what is known at its first slot, and its jumps, by Graphviz."),
+        ("relayd graph client.bpf --lines client.lines | dot -Tsvg >client.svg", "The same with the lines of the source."))),
     "trace": Beyond("docs/PROGRAMS.md", examples=(
         ("relayd trace client.bpf --data 01020304", "Runs a program over a datagram of four bytes."),)),
     "replay": Beyond("docs/EVENTS.md", examples=(

@@ -32,7 +32,8 @@ _relayd() {
     arguments="files"
     ;;
   graph)
-    options="--help"
+    options="--lines --help"
+    values="--lines"
     arguments="files"
     ;;
   trace)
@@ -41,17 +42,20 @@ _relayd() {
     arguments="files"
     ;;
   replay)
-    options="--nonce --why --confine --trace --cover --realm --user --users --secret --revoked --slots --user-slots \
-      --relay-ip --relay-ip6 --first-port --client --peer --same-as --help"
-    files="--users --secret --revoked --client --peer"
-    values="--nonce --trace --realm --user --slots --user-slots --relay-ip --relay-ip6 --first-port --same-as"
+    options="--nonce --why --confine --trace --cover --client-lines --peer-lines --against --against-peer --realm --user \
+      --users --secret --revoked --slots --user-slots --relay-ip --relay-ip6 --first-port --client --peer --same-as \
+      --help"
+    files="--against --against-peer --users --secret --revoked --client --peer"
+    values="--nonce --trace --client-lines --peer-lines --realm --user --slots --user-slots --relay-ip --relay-ip6 \
+      --first-port --same-as"
     arguments="files"
     ;;
   serve)
-    options="--port --options --listen --listen6 --buffer --reuse-port --deny --allow --relayed-ports --unconfined --rounds \
-      --nonce-lifetime --stats --metrics --record --record-limit --log --realm --user --users --secret --revoked \
-      --slots --user-slots --relay-ip --relay-ip6 --first-port --client --peer --same-as --help"
-    files="--options --metrics --record --users --secret --revoked --client --peer"
+    options="--port --options --listen --listen6 --buffer --reuse-port --deny --allow --relayed-ports --unconfined \
+      --shadow-client --shadow-peer --rounds --nonce-lifetime --stats --metrics --record --record-limit --log \
+      --realm --user --users --secret --revoked --slots --user-slots --relay-ip --relay-ip6 --first-port --client \
+      --peer --same-as --help"
+    files="--options --shadow-client --shadow-peer --metrics --record --users --secret --revoked --client --peer"
     values="--port --listen --listen6 --buffer --deny --allow --relayed-ports --rounds --nonce-lifetime --stats \
       --record-limit --realm --user --slots --user-slots --relay-ip --relay-ip6 --first-port --same-as"
     ;;

@@ -271,6 +271,10 @@ def metrics(clocks):
                 'relayd_datagrams_received_total{from="clients"}': 4 + len(DISCARDED),
                 'relayd_datagrams_received_total{from="peers"}': 1,
                 'relayd_responses_total{result="granted"}': 3, 'relayd_responses_total{result="challenged"}': 1,
+                # the program discards what isn't a message by 0, and passes messages on by 1
+                'relayd_program_verdicts_total{side="client",verdict="0"}': 4 + 5,
+                'relayd_program_verdicts_total{side="client",verdict="1"}': 4 + 3,
+                'relayd_program_verdicts_total{side="peer",verdict="0"}': 1,
                 **DISCARDED_SAMPLES,
             }
             client.ask(BINDING, [])

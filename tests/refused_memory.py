@@ -31,10 +31,11 @@ USERS = str(EXAMPLES / "users.txt")
 OUT_OF_MEMORY = (4, "", "out of memory\n")
 # more than the number of any allocation
 EVER = 10**9
-# the ports of two servers that run at once: none that other servers of this script draw meanwhile
-PORT = free_ports(7, among=(10_000, 19_000))
+# the ports of three servers that run at once: none that other servers of this script draw meanwhile
+PORT = free_ports(9, among=(10_000, 19_000))
 SERVER = ["--port", str(PORT), "--first-port", str(PORT + 1)]
 OTHER_SERVER = ["--port", str(PORT + 5), "--first-port", str(PORT + 6)]
+SHADOWED_SERVER = ["--port", str(PORT + 7), "--first-port", str(PORT + 8)]
 # where metrics are written, the file of a record, which is new in each run, and files of secrets and of revoked users
 FOLDER = tempfile.TemporaryDirectory()
 RECORD = pathlib.Path(FOLDER.name) / "record"
@@ -48,6 +49,9 @@ LOOP.write_bytes(bytes.fromhex("b700000000000000 0500feff00000000"))
 # a source map of the program whose jumps lead backward
 LINES = pathlib.Path(FOLDER.name) / "lines"
 LINES.write_text("".join(f"{slot} a.s:{slot + 1} text\n" for slot in range(7)))
+# and one of a program of eight instructions
+FOURTH_BYTE_LINES = pathlib.Path(FOLDER.name) / "fourth_byte_lines"
+FOURTH_BYTE_LINES.write_text("".join(f"{slot} a.s:{slot + 1}\n" for slot in range(8)))
 # command lines, each with its status where no allocation is refused
 CASES = [
     (["verify", FOURTH_BYTE], 0),
@@ -77,13 +81,18 @@ CASES = [
     (["verify", BACKWARD, "--lines", str(LINES)], 1),
     (["disassemble", BACKWARD, "--lines", str(LINES)], 0),
     (["trace", str(EXAMPLES / "permitted_source.bpf"), "--permit", "127.0.0.1", "--channel", "0x4000=192.0.2.7:1"], 0),
+    (["graph", HEADER], 0),
+    (["graph", BACKWARD, "--lines", str(LINES)], 1),
     (["replay", "--user", "u:p", "--cover", "/dev/null"], 0),
+    (["replay", "--user", "u:p", "--cover", "--client", FOURTH_BYTE, "--client-lines", str(FOURTH_BYTE_LINES), "/dev/null"], 0),
+    (["replay", "--user", "u:p", "--against", FOURTH_BYTE, str(EXAMPLES / "session.events")], 0),
     (["replay", "--user", "u:p", "--trace", "1", str(EXAMPLES / "session.events")], 0),
     (["replay", "--user", "u:p", "--users", USERS, "--client", FOURTH_BYTE, "--peer", HEADER, "/dev/null"], 0),
     (["replay", "--user", "u:p", "--nonce", "a b", "/dev/null"], 1),
     (["replay", "--secret", str(SECRET), "--revoked", str(REVOKED), "/dev/null"], 0),
     (["serve", *SERVER, "--user", "u:p", "--slots", "4", "--rounds", "1", "--stats", "1", "--metrics", f"{FOLDER.name}/metrics"], 0),
     (["serve", *OTHER_SERVER, "--user", "u:p", "--slots", "1", "--rounds", "1", "--record", str(RECORD), "--log"], 0),
+    (["serve", *SHADOWED_SERVER, "--user", "u:p", "--slots", "1", "--rounds", "1", "--shadow-client", FOURTH_BYTE, "--stats", "1"], 0),
     (["verify", "no such file"], 3),
     (["verify"], 2),
     (["load"], 2),

@@ -19,8 +19,8 @@ SIDE_BY_SIDE = ["walked_tables", "shipped", "refusals", "kernel_vectors", "kerne
                 "texts", "source_maps", "traces", "sizes", "files", "changed_inputs", "ordering", "c_programs", "replay", "relaying", "failing_io", "memory",
                 "release", "packaging", "refused_memory"]
 # worst_programs measures time and memory; the others bind ports, and most wait for what a server does
-ALONE = ["pages", "worst_programs", "serve", "check", "time_limited", "recording", "server_log", "hostile", "hostile_programs", "clock", "clients",
-         "allocations"]
+ALONE = ["pages", "worst_programs", "serve", "check", "time_limited", "recording", "server_log", "hostile", "hostile_programs", "shadow",
+         "clock", "clients", "allocations"]
 
 
 def ran(script):

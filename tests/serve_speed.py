@@ -1,5 +1,5 @@
 """Prints how many round trips a second `relayd serve` relays over a channel, beside one that reports all that it can (`--log`,
-`--metrics`, `--stats`), a forwarder in C, coturn, and no relay.
+`--metrics`, `--stats`), one with a shadow of the client's side, and one of both sides, a forwarder in C, coturn, and no relay.
 
     tests/serve_speed.py [ROUNDS]
 
@@ -22,7 +22,7 @@ import sys
 import tempfile
 import time
 
-from lib.program import TOP, build
+from lib.program import TOP, build, shipped
 from lib.rules import REFRESH
 from lib.server import Client, Server, code_of, free_ports
 
@@ -132,9 +132,14 @@ def subjects(tool, folder, stack):
     forwarder = stack.enter_context(Process(tool, "forward", str(echo.port)))
     server = stack.enter_context(Server())
     reporting = stack.enter_context(Server("--log", "--metrics", f"{folder}/relayd.prom", "--stats", "1"))
+    client, peer = (str(shipped(pathlib.Path(folder), side)) for side in ("client", "peer"))
+    shadowed = stack.enter_context(Server("--shadow-client", client))
+    both = stack.enter_context(Server("--shadow-client", client, "--shadow-peer", peer))
     found = {
         "relayd": session(server, server.process.pid, echo.port, stack),
         "reporting": session(reporting, reporting.process.pid, echo.port, stack),
+        "a shadow": session(shadowed, shadowed.process.pid, echo.port, stack),
+        "two": session(both, both.process.pid, echo.port, stack),
         "forwarder": Subject(plain(forwarder.port, stack), forwarder.process.pid),
         "no relay": Subject(plain(echo.port, stack), echo.process.pid),
     }

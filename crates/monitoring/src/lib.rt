@@ -1,4 +1,4 @@
-//! What a running server writes: its counters, metrics, log and record, and lines on standard error.
+//! What a running server writes: its counters, metrics, log and record, how shadows compare, and lines on standard error.
 #![tactic(auto)]
 
 mod counters;
@@ -8,9 +8,11 @@ mod metrics;
 mod recording;
 mod reports;
 mod server_log;
+mod watching;
 
 pub use error_lines::ErrorLines;
 pub use metrics::MetricsFile;
 pub use recording::{RecordEnd, RecordError, Recording};
 pub use reports::{Observed, Reports};
 pub use server_log::{EndReason, Sender, ServerLog};
+pub use watching::Watch;

@@ -1,7 +1,10 @@
 //! The metrics of a server, in the text format of Prometheus, for the textfile collector of its node_exporter.
 
 use crate::counters::reason_name;
-use server::{Counter, Counters, KINDS, Kind, REASONS, Timer};
+use crate::watching::side_name;
+use machine::Side;
+use server::{Counter, Counters, KINDS, Kind, REASONS, Timer, VERDICTS};
+use shadow::{Comparison, DIFFERENCES, Deed, Shadows};
 use std::alloc::{AllocError, Global};
 use std::fs;
 use std::io::{self, Write};
@@ -12,7 +15,12 @@ use std::time::Duration;
 const PERIOD: u64 = 15;
 
 /// The bytes of memory that are taken for the text. The longest one, of counters of 20 digits, has fewer.
-const ROOM: usize = 16_384;
+const ROOM: usize = 32_768;
+
+/// The labels of the verdicts that are counted each on its own.
+const VERDICT_NAMES: [&str; VERDICTS] = [
+    "0", "1", "2", "3", "4", "5", "6", "7", "8", "9", "10", "11", "12", "13", "14", "15",
+];
 
 /// What follows the name of the file in that of the new one.
 const SUFFIX: &str = ".new";
@@ -21,6 +29,7 @@ const SUFFIX: &str = ".new";
 #[derive(Clone, Copy)]
 pub(crate) struct Metrics<'a> {
     pub(crate) counters: &'a Counters,
+    pub(crate) shadows: &'a Shadows,
     /// How many datagrams the system dropped, if that is known.
     pub(crate) dropped: Option<u64>,
     /// The number of slots.
@@ -68,6 +77,29 @@ fn kind_name(kind: Kind) -> &'static str {
     }
 }
 
+/// Returns the label of a difference between a program and its shadow.
+fn difference_name(difference: Comparison) -> &'static str {
+    match difference {
+        Comparison::Differs(Deed::Discards, Deed::PassesOn) => "discarded_passed_on",
+        Comparison::Differs(Deed::Discards, _) => "discarded_sent",
+        Comparison::Differs(Deed::PassesOn, Deed::Discards) => "passed_on_discarded",
+        Comparison::Differs(Deed::PassesOn, _) => "passed_on_sent",
+        Comparison::Differs(Deed::Sends, Deed::Discards) => "sent_discarded",
+        Comparison::Differs(Deed::Sends, _) => "sent_passed_on",
+        Comparison::Elsewhere => "elsewhere",
+        Comparison::OtherBytes => "other_bytes",
+        Comparison::Same => "none",
+    }
+}
+
+/// Returns the label of a verdict that is counted.
+fn verdict_name(verdict: usize) -> &'static str {
+    match VERDICT_NAMES.get(verdict) {
+        Some(name) => *name,
+        None => "other",
+    }
+}
+
 impl Family {
     const RECEIVED: Family = Family {
         name: "relayd_datagrams_received_total",
@@ -91,6 +123,24 @@ impl Family {
         name: "relayd_datagrams_discarded_total",
         kind: "counter",
         help: "Datagrams that nothing was sent for.",
+    };
+
+    const VERDICTS: Family = Family {
+        name: "relayd_program_verdicts_total",
+        kind: "counter",
+        help: "Runs of the programs by their verdicts.",
+    };
+
+    const COMPARED: Family = Family {
+        name: "relayd_shadow_compared_total",
+        kind: "counter",
+        help: "Datagrams with which a shadow was compared.",
+    };
+
+    const DIFFERING: Family = Family {
+        name: "relayd_shadow_differing_total",
+        kind: "counter",
+        help: "Datagrams with which a shadow would have done something else.",
     };
 
     const DENIED: Family = Family {
@@ -217,10 +267,59 @@ impl Metrics<'_> {
         self.write_each(out, &Family::FAULTS, "call", &calls)
     }
 
+    /// Writes how often the program of a side ended with which verdict.
+    fn write_verdicts<W: Write>(&self, out: &mut W, side: Side) -> io::Result<()> {
+        for verdict in 0..VERDICTS + 1 {
+            let value = self.counters.verdict_count(side, verdict as u64);
+            let labels = [
+                ("side", side_name(side)),
+                ("verdict", verdict_name(verdict)),
+            ];
+            self.write_sample(out, &Family::VERDICTS, &labels, value)?;
+        }
+        Ok(())
+    }
+
+    /// Writes what the shadow of a side would have done otherwise, if it has one.
+    fn write_differing<W: Write>(&self, out: &mut W, side: Side) -> io::Result<()> {
+        let Some(counts) = self.shadows.counts_of(side) else {
+            return Ok(());
+        };
+        for difference in DIFFERENCES {
+            let labels = [
+                ("side", side_name(side)),
+                ("difference", difference_name(difference)),
+            ];
+            self.write_sample(out, &Family::DIFFERING, &labels, counts.get(difference))?;
+        }
+        Ok(())
+    }
+
+    /// Writes what the programs did, and how their shadows compare, if there are some.
+    fn write_programs<W: Write>(&self, out: &mut W) -> io::Result<()> {
+        Family::VERDICTS.write_head(out)?;
+        self.write_verdicts(out, Side::Client)?;
+        self.write_verdicts(out, Side::Peer)?;
+        if !self.shadows.has_some() {
+            return Ok(());
+        }
+        Family::COMPARED.write_head(out)?;
+        for side in [Side::Client, Side::Peer] {
+            if let Some(counts) = self.shadows.counts_of(side) {
+                let labels = [("side", side_name(side))];
+                self.write_sample(out, &Family::COMPARED, &labels, counts.compared())?;
+            }
+        }
+        Family::DIFFERING.write_head(out)?;
+        self.write_differing(out, Side::Client)?;
+        self.write_differing(out, Side::Peer)
+    }
+
     /// Writes all metrics.
     fn write<W: Write>(&self, out: &mut W) -> io::Result<()> {
         self.write_handled(out)?;
         self.write_unsent(out)?;
+        self.write_programs(out)?;
         if let Some(dropped) = self.dropped {
             self.write_one(out, &Family::DROPPED, dropped)?;
         }

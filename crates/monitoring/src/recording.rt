@@ -5,7 +5,6 @@ use events::{Event, Meta, write_event};
 use libc::getrlimit;
 use libc::types::rlimit;
 use semantics::MAX_DATAGRAM;
-use server::Recorder;
 use std::fs::{File, OpenOptions};
 use std::io::{self, ErrorKind, Write};
 use std::mem;
@@ -71,6 +70,8 @@ struct RecordFile<'a> {
     file: File,
     /// The lines that are still to be written.
     lines: Vec<u8>,
+    /// How many lines were added.
+    count: u64,
     /// The bytes of those that were written.
     written: u64,
     /// The most bytes that the file may have.
@@ -115,6 +116,8 @@ impl RecordFile<'_> {
             self.take_back(line, RecordEnd::Memory);
         } else if self.lines.len() as u64 > self.limit.saturating_sub(self.written) {
             self.take_back(line, RecordEnd::Length(self.limit));
+        } else {
+            self.count = self.count.saturating_add(1);
         }
         if self.lines.len() > ROOM - LONGEST {
             self.write();
@@ -183,6 +186,7 @@ impl<'a> Recording<'a> {
                 path,
                 file,
                 lines,
+                count: 0,
                 written: 0,
                 limit: file_limit(limit),
                 end: None,
@@ -194,6 +198,26 @@ impl<'a> Recording<'a> {
     pub fn record_nonce(&mut self, nonce: &str) {
         if let Some(file) = &mut self.file {
             file.record(&Event::Nonce(nonce));
+        }
+    }
+
+    /// Adds a datagram that has come.
+    #[inline(always)]
+    pub(crate) fn record(&mut self, meta: &Meta, datagram: &[u8]) {
+        if let Some(file) = &mut self.file {
+            let meta = *meta;
+            file.record(&Event::Datagram {
+                meta,
+                bytes: datagram,
+            });
+        }
+    }
+
+    /// Returns the number of the line that was added last, from 1 on, if the recording hasn't ended.
+    pub(crate) fn line(&self) -> Option<u64> {
+        match &self.file {
+            Some(file) if file.end.is_none() => Some(file.count),
+            _ => None,
         }
     }
 
@@ -211,19 +235,6 @@ impl<'a> Recording<'a> {
         if let Some(mut file) = mem::replace(&mut self.file, None) {
             let why = file.flush().unwrap_or(why);
             let _ = writeln!(err, "recording to {} ended: {why}", file.path);
-        }
-    }
-}
-
-impl Recorder for Recording<'_> {
-    #[inline(always)]
-    fn record(&mut self, meta: &Meta, datagram: &[u8]) {
-        if let Some(file) = &mut self.file {
-            let meta = *meta;
-            file.record(&Event::Datagram {
-                meta,
-                bytes: datagram,
-            });
         }
     }
 }

@@ -4,7 +4,10 @@ use crate::counters::{CounterLine, Faults};
 use crate::drops::Drops;
 use crate::metrics::{Metrics, MetricsFile};
 use crate::server_log::{EndReason, ServerLog};
+use crate::watching::side_name;
+use machine::Side;
 use server::{Counters, Timer};
+use shadow::Shadows;
 use std::alloc::AllocError;
 use std::io::{self, Write};
 use std::rt::Files;
@@ -14,10 +17,17 @@ use tables::Tables;
 /// The seconds after which faults may be printed again.
 const FAULTS_PERIOD: u64 = 1;
 
+/// The seconds after which it is printed again how shadows compare.
+const SHADOWS_PERIOD: u64 = 60;
+
+/// Both sides.
+const SIDES: [Side; 2] = [Side::Client, Side::Peer];
+
 /// What is reported on.
 #[derive(Clone, Copy)]
 pub struct Observed<'a> {
     pub counters: &'a Counters,
+    pub shadows: &'a Shadows,
     pub tables: &'a Tables,
     /// Whole seconds since 1970.
     pub moment: u64,
@@ -32,8 +42,19 @@ pub struct Reports<'a> {
     /// When faults may be printed next.
     faults: Timer,
     stats: Option<Timer>,
+    /// When it may be printed next how shadows compare.
+    shadows: Timer,
     metrics: Option<MetricsFile<'a>>,
     log: Option<ServerLog>,
+}
+
+/// Prints how the shadows compare with their programs. A failure to print is ignored.
+fn print_shadows<E: Write>(err: &mut E, shadows: &Shadows) {
+    for side in SIDES {
+        if let Some(counts) = shadows.counts_of(side) {
+            let _ = writeln!(err, "shadow {}: {counts}", side_name(side));
+        }
+    }
 }
 
 impl<'a> Reports<'a> {
@@ -54,6 +75,7 @@ impl<'a> Reports<'a> {
             printed: Faults::NONE,
             faults: Timer::new(now, Duration::from_secs(FAULTS_PERIOD)),
             stats: stats.map(|seconds| Timer::new(now, Duration::from_secs(seconds))),
+            shadows: Timer::new(now, Duration::from_secs(SHADOWS_PERIOD)),
             metrics,
             log,
         })
@@ -88,10 +110,14 @@ impl<'a> Reports<'a> {
         }
     }
 
-    /// Prints the line of counters. A failure to print is ignored.
-    fn print_counters<R: Files, E: Write>(&mut self, rt: &R, err: &mut E, counters: &Counters) {
-        let dropped = self.drops.count(rt);
-        let _ = writeln!(err, "{}", CounterLine { counters, dropped });
+    /// Prints the line of counters, and how shadows compare. A failure to print is ignored.
+    fn print_counters<R: Files, E: Write>(&mut self, rt: &R, err: &mut E, of: Observed<'_>) {
+        let line = CounterLine {
+            counters: of.counters,
+            dropped: self.drops.count(rt),
+        };
+        let _ = writeln!(err, "{line}");
+        print_shadows(err, of.shadows);
     }
 
     /// Returns the metrics, with the label of their samples if they have one.
@@ -103,6 +129,7 @@ impl<'a> Reports<'a> {
     ) -> Metrics<'b> {
         Metrics {
             counters: of.counters,
+            shadows: of.shadows,
             dropped: self.drops.count(rt),
             slots: of.tables.slots(),
             used: of.tables.allocation_count(of.moment),
@@ -155,7 +182,7 @@ impl<'a> Reports<'a> {
         }
     }
 
-    /// Prints faults and counters and writes metrics, as far as they are due.
+    /// Prints faults, counters and how shadows compare, and writes metrics, as far as they are due.
     pub fn tend<R: Files, E: Write>(
         &mut self,
         rt: &R,
@@ -169,7 +196,9 @@ impl<'a> Reports<'a> {
         if let Some(stats) = &mut self.stats
             && stats.is_due(now)
         {
-            self.print_counters(rt, err, of.counters);
+            self.print_counters(rt, err, of);
+        } else if self.shadows.is_due(now) {
+            print_shadows(err, of.shadows);
         }
         if let Some(file) = &mut self.metrics
             && file.is_due(now)
@@ -189,7 +218,7 @@ impl<'a> Reports<'a> {
     pub fn end<R: Files, E: Write>(&mut self, rt: &R, err: &mut E, of: Observed<'_>) {
         self.print_faults(err, of.counters);
         if self.stats.is_some() {
-            self.print_counters(rt, err, of.counters);
+            self.print_counters(rt, err, of);
         }
         self.write_metrics(rt, err, of);
     }

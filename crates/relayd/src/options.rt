@@ -353,7 +353,7 @@ fn program<'a>(
 }
 
 /// Returns the fault of a side's program, by the name of its file, or of the shipped one.
-fn program_fault(error: ProgramError, path: &str) -> CommandError<'_> {
+pub(crate) fn program_fault(error: ProgramError, path: &str) -> CommandError<'_> {
     match error {
         ProgramError::File => CommandError::File(path),
         ProgramError::Memory => CommandError::Memory,

@@ -3,12 +3,12 @@
 use crate::clock::{elapsed, moment};
 use crate::filters::peer_options;
 use crate::options::{CommandError, Relayed};
-use crate::starting::start;
+use crate::starting::{give_shadows, shadows_of, start};
 use arrayvec::ArrayVec;
 use command_line::{Options, ServerOptions};
 use control::{Grant, Response};
 use mio::{Events, Poll, Token};
-use monitoring::{EndReason, ErrorLines, Observed, RecordEnd, Recording, Reports, Sender};
+use monitoring::{EndReason, ErrorLines, Observed, RecordEnd, Reports, Sender, Watch};
 use peer_filter::PeerFilter;
 use rand::rngs::StdRng;
 use rand_core::Rng;
@@ -45,7 +45,8 @@ pub(crate) struct Wire<'a> {
     pub(crate) sockets: Sockets,
     /// The peers that nothing is sent to.
     pub(crate) filter: Option<PeerFilter>,
-    pub(crate) recording: Recording<'a>,
+    /// What records, and compares shadows.
+    pub(crate) watch: Watch<'a>,
     pub(crate) counters: Counters,
     pub(crate) rng: StdRng,
     /// The transaction id for an indication about the next datagram.
@@ -59,6 +60,8 @@ pub(crate) struct Server<'a> {
     pub(crate) relayed: Relayed,
     pub(crate) wire: Wire<'a>,
     pub(crate) sides: Sides<'a>,
+    /// The programs of the shadows.
+    pub(crate) shadows: Sides<'a>,
     /// The files of users, of secrets and of revoked users that are read again.
     pub(crate) reread: Vec<RereadFile<'a>>,
     pub(crate) moments: Moments,
@@ -90,6 +93,16 @@ struct ServedEndpoints<'a, 'b, R: Clock> {
     rt: &'b R,
 }
 
+/// Returns what is reported on at a moment.
+fn observed<'b>(wire: &'b Wire<'_>, relay: &'b Relay, moment: u64) -> Observed<'b> {
+    Observed {
+        counters: &wire.counters,
+        shadows: &wire.watch.shadows,
+        tables: relay.tables(),
+        moment,
+    }
+}
+
 /// Returns why allocations, and the recording, end where what a file has is replaced.
 fn ends_of(contents: Contents<'_>) -> (EndReason, RecordEnd) {
     match contents {
@@ -103,7 +116,7 @@ impl<'a> Server<'a> {
     /// Replaces the nonce by one that is drawn, which is never refused.
     fn renew_nonce(&mut self) {
         let nonce = draw_nonce(&mut self.wire.rng);
-        self.wire.recording.record_nonce(nonce.as_str());
+        self.wire.watch.recording.record_nonce(nonce.as_str());
         let _ = self.relay.set_nonce(nonce.as_str());
     }
 
@@ -146,11 +159,7 @@ impl<'a> Server<'a> {
         err: &mut E,
         options: &ServerOptions<'a>,
     ) -> Result<(), CommandError<'a>> {
-        let of = Observed {
-            counters: &self.wire.counters,
-            tables: self.relay.tables(),
-            moment: moment(rt, &self.moments),
-        };
+        let of = observed(&self.wire, &self.relay, moment(rt, &self.moments));
         if self.reports.begin(rt, of).is_err() {
             return Err(CommandError::Unwritable(options.metrics.unwrap_or("")));
         }
@@ -159,15 +168,23 @@ impl<'a> Server<'a> {
         Ok(())
     }
 
-    /// Goes on verifying programs for some time, and replaces those that run where all are verified.
+    /// Returns whether a program, or one of a shadow, is being replaced.
+    fn is_replacing(&self) -> bool {
+        self.sides.is_replacing() || self.shadows.is_replacing()
+    }
+
+    /// Goes on verifying programs for some time, those of shadows last, and replaces those that run where all are verified.
     fn verify<R: Clock, E: Write>(&mut self, rt: &R, err: &mut E, start: Duration) {
         let end = start.saturating_add(Duration::from_micros(VERIFYING));
         for _ in 0..SLICES {
-            if !self.sides.is_replacing() || elapsed(rt) >= end {
+            if !self.is_replacing() || elapsed(rt) >= end {
                 return;
             }
-            if self.sides.advance(&mut self.relay, err) {
-                self.wire.recording.end(err, RecordEnd::Programs);
+            let watch = &mut self.wire.watch;
+            if !self.sides.is_replacing() {
+                self.shadows.advance(&mut watch.shadows, err);
+            } else if self.sides.advance(&mut self.relay, err) {
+                watch.recording.end(err, RecordEnd::Programs);
             }
         }
     }
@@ -204,13 +221,14 @@ impl<'a> Server<'a> {
                 "clock set {direction} by {} seconds",
                 ahead.abs_diff(old)
             );
-            self.wire.recording.end(err, RecordEnd::Clock);
+            self.wire.watch.recording.end(err, RecordEnd::Clock);
         }
     }
 
     /// Looks for other programs, users, secrets and revoked users.
     fn look_at_files<R: Files + Clock + AllocGlobal, E: Write>(&mut self, rt: &R, err: &mut E) {
         self.sides.look(rt, err);
+        self.shadows.look(rt, err);
         self.log_ends(rt, EndReason::Expired);
         for index in 0..self.reread.len() {
             let Some(file) = self.reread.get_mut(index) else {
@@ -219,7 +237,7 @@ impl<'a> Server<'a> {
             if file.look(rt, err, &mut self.relay) {
                 let (reason, end) = ends_of(file.contents());
                 self.log_ends(rt, reason);
-                self.wire.recording.end(err, end);
+                self.wire.watch.recording.end(err, end);
             }
         }
     }
@@ -240,7 +258,7 @@ impl<'a> Server<'a> {
 
     /// Writes what was recorded, and prints what was logged.
     fn flush<E: Write>(&mut self, err: &mut E) {
-        self.wire.recording.flush(err);
+        self.wire.watch.flush(err);
         self.reports.flush(err);
     }
 
@@ -252,11 +270,7 @@ impl<'a> Server<'a> {
         if self.nonces.is_due(now) {
             self.renew_nonce();
         }
-        let of = Observed {
-            counters: &self.wire.counters,
-            tables: self.relay.tables(),
-            moment: moment(rt, &self.moments),
-        };
+        let of = observed(&self.wire, &self.relay, moment(rt, &self.moments));
         self.reports.tend_log(err, of, now);
         if self.files.is_due(now) {
             self.close_own_sockets(rt);
@@ -264,19 +278,15 @@ impl<'a> Server<'a> {
             self.look_at_files(rt, err);
         }
         self.verify(rt, err, now);
-        let of = Observed {
-            counters: &self.wire.counters,
-            tables: self.relay.tables(),
-            moment: moment(rt, &self.moments),
-        };
+        let of = observed(&self.wire, &self.relay, moment(rt, &self.moments));
         self.reports.tend(rt, err, of, now);
     }
 
     /// Returns the longest wait for a datagram. Without end where nothing but datagrams matters: a nonce that is due is
     /// drawn before the next of them is served.
     fn longest_wait(&self) -> Option<Duration> {
-        let has_files = self.sides.has_files() || !self.reread.is_empty();
-        if has_files || self.reports.is_waiting(&self.wire.counters) {
+        let has_programs = self.sides.has_files() || self.shadows.has_files();
+        if has_programs || !self.reread.is_empty() || self.reports.is_waiting(&self.wire.counters) {
             Some(Duration::from_secs(PERIOD))
         } else {
             None
@@ -296,7 +306,7 @@ impl<'a> Server<'a> {
         let served = turn(
             &mut self.relay,
             &mut wire.sockets,
-            &mut wire.recording,
+            &mut wire.watch,
             &wire.filter,
             &mut wire.counters,
             arrival,
@@ -337,11 +347,7 @@ impl<'a> Server<'a> {
             self.tend(rt, err);
         }
         self.flush(err);
-        let of = Observed {
-            counters: &self.wire.counters,
-            tables: self.relay.tables(),
-            moment: moment(rt, &self.moments),
-        };
+        let of = observed(&self.wire, &self.relay, moment(rt, &self.moments));
         self.reports.end(rt, err, of);
     }
 
@@ -385,7 +391,7 @@ impl<'a> Server<'a> {
         mut waiting: Waiting,
     ) -> Result<(), CommandError<'static>> {
         for _ in 0..u64::MAX {
-            let is_idle = !waiting.schedule.has_ready() && !self.sides.is_replacing();
+            let is_idle = !waiting.schedule.has_ready() && !self.is_replacing();
             let wait = if is_idle {
                 self.longest_wait()
             } else {
@@ -503,7 +509,9 @@ fn serve_sockets<
     options: &Options<'a>,
 ) -> Result<(), CommandError<'a>> {
     let peers = peer_options(rt.alloc(), server_options, options)?;
+    let shadows = shadows_of(rt, server_options)?;
     let mut server = start(rt, server_options, &peers, options)?;
+    give_shadows(&mut server, shadows);
     serve_lines(rt, err, &mut server, server_options, options)
 }
 

@@ -2,19 +2,22 @@
 
 use crate::clock::{elapsed, starting_now};
 use crate::filters::{PeerOptions, filter_of};
-use crate::options::{CommandError, Prepared, Relayed, Texts, set_up};
+use crate::options::{CommandError, Prepared, Relayed, Texts, program_fault, set_up, unread};
 use crate::serve_command::{Server, Wire};
 use command_line::{Options, ServerOptions, defaults, relayed_ip, relayed_ip6};
-use monitoring::{MetricsFile, RecordError, Recording, Reports, ServerLog};
+use loader::{Loaded, load};
+use monitoring::{MetricsFile, RecordError, Recording, Reports, ServerLog, Watch};
 use peer_filter::PeerFilter;
 use rand::make_rng;
 use rand::rngs::StdRng;
 use rand_core::Rng;
 use replacing::{Contents, ProgramFile, RereadFile, Sides};
 use server::{ClockOffset, Counters, Timer};
+use setup::ProgramError;
+use shadow::Shadows;
 use sockets::{Addresses, BindError, EndpointSockets, SocketOptions, Sockets};
 use std::alloc::{AllocError, Global};
-use std::fs::File;
+use std::fs::{self, File};
 use std::net::{Ipv4Addr, Ipv6Addr, Net};
 use std::random::RandomSource;
 use std::rt::{Clock, Files};
@@ -125,10 +128,14 @@ fn wire_of<'a, R: Files<File = File> + Net + RandomSource + AllocGlobal>(
     let mut rng: StdRng = make_rng(rt).map_err(|_| CommandError::Random)?;
     let mut tx = [0; 12];
     rng.fill_bytes(&mut tx);
+    let recording = recording_of(rt, server_options)?;
+    let Ok(watch) = Watch::new(rt.alloc(), recording) else {
+        return Err(CommandError::Memory);
+    };
     Ok(Wire {
         sockets,
         filter: Some(filter),
-        recording: recording_of(rt, server_options)?,
+        watch,
         counters: Counters::new(),
         rng,
         tx,
@@ -180,6 +187,62 @@ fn reports_of<'a, R: Files + AllocGlobal>(
     let log = log_of(rt.alloc(), server_options, options, now)?;
     match Reports::new(rt, server_options.stats, metrics, log, now) {
         Ok(reports) => Ok(reports),
+        Err(_) => Err(CommandError::Memory),
+    }
+}
+
+/// A shadow's file, if one is given, with the bytes that it has, and the program that is loaded from them.
+#[derive(Drop)]
+struct ShadowProgram<'a> {
+    file: ProgramFile<'a>,
+    program: Option<Loaded>,
+}
+
+/// Reads and loads the program of a shadow, if one is given.
+fn shadow_program<'a, R: Files + AllocGlobal>(
+    rt: &R,
+    path: Option<&'a str>,
+) -> Result<ShadowProgram<'a>, CommandError<'a>> {
+    let Some(path) = path else {
+        return Ok(ShadowProgram {
+            file: no_file(),
+            program: None,
+        });
+    };
+    let bytes = fs::read(rt, path).map_err(|error| unread(&error, path))?;
+    match load(rt.alloc(), &bytes) {
+        Ok(program) => Ok(ShadowProgram {
+            file: ProgramFile {
+                path: Some(path),
+                bytes: Some(bytes),
+            },
+            program: Some(program),
+        }),
+        Err(error) => Err(program_fault(ProgramError::from(error), path)),
+    }
+}
+
+/// The shadows, and the files that their programs are replaced from.
+#[derive(Drop)]
+pub(crate) struct ShadowParts<'a> {
+    shadows: Shadows,
+    client: ProgramFile<'a>,
+    peer: ProgramFile<'a>,
+}
+
+/// Reads and loads the programs of shadows, that for clients' datagrams first.
+pub(crate) fn shadows_of<'a, R: Files + AllocGlobal>(
+    rt: &R,
+    server_options: &ServerOptions<'a>,
+) -> Result<ShadowParts<'a>, CommandError<'a>> {
+    let client = shadow_program(rt, server_options.shadow_client)?;
+    let peer = shadow_program(rt, server_options.shadow_peer)?;
+    match Shadows::new(rt.alloc(), client.program, peer.program) {
+        Ok(shadows) => Ok(ShadowParts {
+            shadows,
+            client: client.file,
+            peer: peer.file,
+        }),
         Err(_) => Err(CommandError::Memory),
     }
 }
@@ -243,7 +306,15 @@ fn reread_files<'a>(
     Ok(files)
 }
 
-/// Puts a server together.
+/// Returns the file of a shadow that there isn't.
+fn no_file<'a>() -> ProgramFile<'a> {
+    ProgramFile {
+        path: None,
+        bytes: None,
+    }
+}
+
+/// Puts a server together, without shadows.
 fn server_of<'a, R: Clock + AllocGlobal>(
     rt: &R,
     server_options: &ServerOptions<'a>,
@@ -269,6 +340,7 @@ fn server_of<'a, R: Clock + AllocGlobal>(
         relayed,
         wire: parts.wire,
         sides: Sides::new(client, peer),
+        shadows: Sides::new(no_file(), no_file()),
         reread,
         moments: starting_now(rt),
         nonces: Timer::new(now, Duration::from_secs(server_options.nonce_lifetime)),
@@ -279,7 +351,18 @@ fn server_of<'a, R: Clock + AllocGlobal>(
     })
 }
 
-/// Sets up a server: its relay, and then its sockets, all of which are bound.
+/// Gives a server its shadows.
+pub(crate) fn give_shadows<'a>(server: &mut Server<'a>, parts: ShadowParts<'a>) {
+    let ShadowParts {
+        shadows,
+        client,
+        peer,
+    } = parts;
+    server.wire.watch.shadows = shadows;
+    server.shadows = Sides::new(client, peer);
+}
+
+/// Sets up a server without shadows: its relay, and then its sockets, all of which are bound.
 pub(crate) fn start<'a, R: Files<File = File> + Net + Clock + RandomSource + AllocGlobal>(
     rt: &R,
     server_options: &ServerOptions<'a>,

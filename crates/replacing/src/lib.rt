@@ -6,5 +6,5 @@ mod replacing;
 mod reread;
 mod watched;
 
-pub use replacing::{ProgramFile, Sides};
+pub use replacing::{ProgramFile, ProgramPair, Sides};
 pub use reread::{Contents, RereadFile};

@@ -6,6 +6,7 @@ use insn::MAX_SLOTS;
 use loader::{LoadError, LoadProgress, Loaded, Loading, Remains};
 use relay::Relay;
 use setup::{ProgramError, RefusedProgram};
+use shadow::Shadows;
 use std::io::Write;
 use std::mem;
 use std::rt::Files;
@@ -51,7 +52,25 @@ struct Side<'a> {
     remains: Option<Remains>,
 }
 
-/// The programs of both sides.
+/// What two programs are replaced in.
+pub trait ProgramPair {
+    /// Takes other programs for the sides for which there is one.
+    fn set_programs(&mut self, client: Option<Loaded>, peer: Option<Loaded>);
+}
+
+impl ProgramPair for Relay {
+    fn set_programs(&mut self, client: Option<Loaded>, peer: Option<Loaded>) {
+        Relay::set_programs(self, client, peer);
+    }
+}
+
+impl ProgramPair for Shadows {
+    fn set_programs(&mut self, client: Option<Loaded>, peer: Option<Loaded>) {
+        Shadows::set_programs(self, client, peer);
+    }
+}
+
+/// The programs of both sides, of a relay or of its shadows.
 #[derive(Drop)]
 pub struct Sides<'a> {
     client: Side<'a>,
@@ -217,7 +236,7 @@ impl<'a> Side<'a> {
 }
 
 impl<'a> Sides<'a> {
-    /// Returns the programs of a relay, each with its file and the bytes that this had, if one is given.
+    /// Returns two programs, each with its file and the bytes that this had, if one is given.
     pub fn new(client: ProgramFile<'a>, peer: ProgramFile<'a>) -> Sides<'a> {
         Sides {
             client: Side::new(client),
@@ -244,7 +263,7 @@ impl<'a> Sides<'a> {
     /// Goes on verifying by a slice of each program. Where all are verified, those that are loaded replace the ones that run;
     /// a program that is refused leaves the one that runs. Returns whether one was replaced.
     /// See docs/DECISIONS.md, "Verification in slices".
-    pub fn advance<E: Write>(&mut self, relay: &mut Relay, err: &mut E) -> bool {
+    pub fn advance<P: ProgramPair, E: Write>(&mut self, programs: &mut P, err: &mut E) -> bool {
         self.client.advance(err);
         self.peer.advance(err);
         if self.client.next.is_verifying() || self.peer.next.is_verifying() {
@@ -253,7 +272,7 @@ impl<'a> Sides<'a> {
         let client = self.client.take(err);
         let peer = self.peer.take(err);
         let is_replaced = client.is_some() || peer.is_some();
-        relay.set_programs(client, peer);
+        programs.set_programs(client, peer);
         is_replaced
     }
 }

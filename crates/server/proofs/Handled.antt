@@ -13,6 +13,7 @@ use Rattle.relay.specs.Relays.{RelayContents, datagram_at, state_of}
 use Rattle.relay.specs.Replays.{system_of}
 use Rattle.relay.specs.Shipped.{AreShipped}
 use Rattle.relay.specs.ByPrograms.{disposition_of_datagram}
+use Rattle.relay.specs.EventRuns.{verdict_of_datagram}
 use Rattle.relay.specs.Steps as relay
 use Rattle.relay.specs.Steps.{HasStepped}
 use Rattle.rules.specs.Systems.{SystemOutcome, system_step}
@@ -59,6 +60,9 @@ module _ (filter : Option Filter) (arrival : Arrival) (old : RelayContents) (buf
   done_is : (a : Arrived) → relay.disposition_of_step with_buffer a.meta a.n ≡ disposition_of_bytes old a.meta (take a.n buffer)
   done_is a = λ i. disposition_of_datagram old.programs old.config (moment_of old.greatest a.meta.now) a.meta.tx a.meta.from old.rows (take a.n (room_written old.frame buffer had has i))
 
+  verdict_is : (a : Arrived) → verdict_of_datagram with_buffer a.meta (datagram_at with_buffer a.n) ≡ verdict_of_datagram old a.meta (take a.n buffer)
+  verdict_is a = λ i. verdict_of_datagram old a.meta (take a.n (room_written old.frame buffer had has i))
+
   -- nothing came, or a receive failed
   pub takes_none : (new : RelayContents) (before after : Option (List Call)) (former latter : Option (List Event)) (came : Result (Option Arrived) LinkFault) (result : Result (Option Served) LinkFault)
       → IsReceived arrival buffer before after former latter came → HasTurned filter old new buffer came [] result
@@ -76,15 +80,16 @@ module _ (filter : Option Filter) (arrival : Arrival) (old : RelayContents) (buf
     taken = taken;
   }
 
-  pub takes : (a : Arrived) (new : RelayContents) (answer : Option Sending) (done : Disposition) (before between after : Option (List Call)) (former latter : Option (List Event)) (became : Outcome) (result : Result (Option Served) LinkFault)
+  pub takes : (a : Arrived) (new : RelayContents) (answer : Option Sending) (done : Disposition) (before between after : Option (List Call)) (former latter : Option (List Event)) (became : Outcome) (verdict : Option ℕ) (result : Result (Option Served) LinkFault)
       → IsReceived arrival buffer before between former latter (Ok (Some a))
       → HasStepped with_buffer new (relay.outcome_of with_buffer a.meta a.n) → answer ≡ (relay.outcome_of with_buffer a.meta a.n).answer
       → done ≡ relay.disposition_of_step with_buffer a.meta a.n → IsAnswered filter answer done between after became
-      → result ≡ Ok (Some (record { from = a.meta.from; kind = a.kind; outcome = became }))
+      → verdict ≡ verdict_of_datagram with_buffer a.meta (datagram_at with_buffer a.n)
+      → result ≡ Ok (Some (record { from = a.meta.from; kind = a.kind; outcome = became; verdict = verdict }))
       → (AreShipped old.programs → relay.outcome_of with_buffer a.meta a.n ≡ relay.ruled_outcome_of with_buffer a.meta a.n)
       → IsHarmless old.programs old.config (state_of old) a.meta (datagram_at with_buffer a.n) answer
       → IsTurn filter arrival old new before after former latter result
-  takes a new answer done before between after former latter became result received stepped answers does sent gives rules harmless =
+  takes a new answer done before between after former latter became verdict result received stepped answers does sent ended gives rules harmless =
       let answer_is : answer ≡ (outcome_of_bytes old a.meta (take a.n buffer)).answer = answers ∙ ap (λ (o : SystemOutcome). o.answer) (outcome_is a) in
       record {
         received = received.received;
@@ -108,6 +113,6 @@ module _ (filter : Option Filter) (arrival : Arrival) (old : RelayContents) (buf
           became = became;
           answered = subst (λ d. HasAnswered filter (outcome_of_bytes old a.meta (take a.n buffer)).answer d sent.sends became) (does ∙ done_is a)
               (subst (λ o. HasAnswered filter o done sent.sends became) answer_is sent.answered);
-          served = gives;
+          served = gives ∙ ap (λ v. Ok (Some (record { from = a.meta.from; kind = a.kind; outcome = became; verdict = v }))) (ended ∙ verdict_is a);
         };
       }

@@ -1,5 +1,7 @@
--- Internal. Where the value of each counter is stored.
+-- Internal. Where the value of each counter is stored, and the count of each verdict.
 use Rattle.std.specs.Prelude.{ℕ, ◌+◌, ◌*◌, slice_index}
+use Rattle.machine.specs.declared.context.Side.{Side}
+use Rattle.machine.specs.declared.context.Side.TheVariants as side
 use Rattle.server.specs.declared.counters.Counters.{Counters}
 use Rattle.server.specs.declared.counters.Counter.{Counter}
 use Rattle.server.specs.declared.counters.Counter.TheVariants as counter
@@ -44,3 +46,7 @@ counter_index (counter.Discarded kind reason) = 11 + 12 * kind_index kind + reas
 
 abbrev pub counter_value : Counters → Counter → ℕ
 counter_value counters c = slice_index counters.values (counter_index c)
+
+abbrev pub verdict_value : Counters → Side × ℕ → ℕ
+verdict_value counters (side.Client, verdict) = slice_index counters.verdicts.client verdict
+verdict_value counters (side.Peer, verdict) = slice_index counters.verdicts.peer verdict

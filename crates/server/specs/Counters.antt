@@ -1,6 +1,7 @@
 -- Meaning. What is counted of datagrams that came, by their kinds (RFC 8656, section 12), and of what became of them.
-use Rattle.std.specs.Prelude.{◌≡◌, ◌≢◌, ℕ, ◌+◌, ◌<◌, ◌-◌, ◌^◌, min, List, [], ◌∷◌, ◌++◌, length, map, if◌then◌else◌}
+use Rattle.std.specs.Prelude.{◌≡◌, ◌≢◌, ℕ, ◌+◌, ◌<◌, ◌-◌, ◌^◌, min, List, [], ◌∷◌, ◌++◌, length, map, Option, None, Some, if◌then◌else◌}
 use Rattle.std.specs.List.{sum_by}
+use Rattle.machine.specs.declared.context.Side.{Side}
 use Rattle.server.specs.declared.counters.TheConstants.{KINDS, REASONS}
 use Rattle.server.specs.declared.counters.Counter.{Counter}
 use Rattle.server.specs.declared.counters.Counter.TheVariants as counter
@@ -66,10 +67,10 @@ outcome_counter kind outcome.SendFailed = counter.SendFaults
 abbrev pub raised : ℕ → ℕ
 raised value = min (value + 1) (2 ^ 64 - 1)
 
--- one counter is raised, and no other one changes
-pub record HasRaised (c : Counter) (old new : Counter → ℕ) : Type 0 where
+-- of counters by name, one is raised, and no other one changes
+pub record HasRaised {Name : Type 0} (c : Name) (old new : Name → ℕ) : Type 0 where
   pub this : new c ≡ raised (old c)
-  pub others : (d : Counter) → d ≢ c → new d ≡ old d
+  pub others : (d : Name) → d ≢ c → new d ≡ old d
 
 -- the two counters of a datagram are raised, and no other one changes
 pub record HasCounted (kind : Kind) (o : Outcome) (old new : Counter → ℕ) : Type 0 where
@@ -81,6 +82,17 @@ pub record HasCounted (kind : Kind) (o : Outcome) (old new : Counter → ℕ) : 
 abbrev pub HaveCounted : List (Kind × Outcome) → (Counter → ℕ) → (Counter → ℕ) → Type 0
 HaveCounted [] old new = (c : Counter) → new c ≡ old c
 HaveCounted ((kind, o) ∷ rest) old new = (next : Counter → ℕ) × HasCounted kind o old next × HaveCounted rest next new
+
+-- ---- verdicts
+
+-- each up to 15 is counted on its own, and all from 16 on together
+abbrev pub counted_verdict : ℕ → ℕ
+counted_verdict verdict = min verdict 16
+
+-- where a program of a side ended with a verdict, that one is raised
+abbrev pub HasCountedVerdict : Side → Option ℕ → (Side × ℕ → ℕ) → (Side × ℕ → ℕ) → Type 0
+HasCountedVerdict side None old new = (v : Side × ℕ) → new v ≡ old v
+HasCountedVerdict side (Some verdict) old new = HasRaised (side, counted_verdict verdict) old new
 
 -- ---- the sums of counters
 

@@ -8,6 +8,7 @@ use Rattle.events.specs.declared.meta.Source.{Source}
 use Rattle.events.specs.declared.meta.Source.TheVariants as source
 use Rattle.peer_filter.specs.Filters.{Filter, allows, allows_client}
 use Rattle.relay.specs.ByPrograms.{disposition_of_datagram}
+use Rattle.relay.specs.EventRuns.{side_of, verdict_of_datagram}
 use Rattle.relay.specs.Harmless.{IsHarmless}
 use Rattle.relay.specs.Relays.{RelayContents, state_of}
 use Rattle.relay.specs.Replays.{system_of}
@@ -18,7 +19,8 @@ use Rattle.rules.specs.Systems.{SystemOutcome, system_step}
 use Rattle.rules.specs.declared.disposition.Disposition.{Disposition}
 use Rattle.semantics.specs.declared.limits.TheConstants.{MAX_DATAGRAM}
 use Rattle.server.specs.Calls.{Call, Received, Sent, HasReported}
-use Rattle.server.specs.Counters.{datagram_kind, HasRaised, HasCounted}
+use Rattle.machine.specs.declared.context.Side.{Side}
+use Rattle.server.specs.Counters.{datagram_kind, HasRaised, HasCounted, HasCountedVerdict}
 use Rattle.server.specs.declared.counters.Counter.{Counter}
 use Rattle.server.specs.declared.counters.Counter.TheVariants as counter
 use Rattle.server.specs.declared.counters.Outcome.{Outcome}
@@ -139,7 +141,7 @@ pub record HasHandled (filter : Option Filter) (old new : RelayContents) (a : Ar
   pub decided : HasDecided old new a.meta bytes
   pub became : Outcome
   pub answered : HasAnswered filter (outcome_of_bytes old a.meta bytes).answer (disposition_of_bytes old a.meta bytes) sends became
-  pub served : result ≡ Ok (Some (record { from = a.meta.from; kind = a.kind; outcome = became }))
+  pub served : result ≡ Ok (Some (record { from = a.meta.from; kind = a.kind; outcome = became; verdict = verdict_of_datagram old a.meta bytes }))
 
 -- a fault, nothing, or a datagram
 abbrev pub HasTurned : Option Filter → RelayContents → RelayContents → List ℕ → Result (Option Arrived) LinkFault → List Call → Result (Option Served) LinkFault → Type 0
@@ -165,3 +167,9 @@ abbrev pub HasCountedTurn : Result (Option Served) LinkFault → (Counter → �
 HasCountedTurn (Err fault) old new = HasRaised counter.ReceiveFaults old new
 HasCountedTurn (Ok None) old new = (c : Counter) → new c ≡ old c
 HasCountedTurn (Ok (Some served)) old new = HasCounted served.kind served.outcome old new
+
+-- and so is the verdict of the program that ran
+abbrev pub HasCountedTurnVerdict : Result (Option Served) LinkFault → (Side × ℕ → ℕ) → (Side × ℕ → ℕ) → Type 0
+HasCountedTurnVerdict (Err fault) old new = (v : Side × ℕ) → new v ≡ old v
+HasCountedTurnVerdict (Ok None) old new = (v : Side × ℕ) → new v ≡ old v
+HasCountedTurnVerdict (Ok (Some served)) old new = HasCountedVerdict (side_of served.from) served.verdict old new

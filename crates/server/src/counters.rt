@@ -1,12 +1,13 @@
 //! What a server counts: the datagrams that came, what became of them, and the receives that failed.
 
-ghost use Rattle.std.specs.Prelude.{◌≡◌, ◌<◌};
-ghost use Rattle.server.specs.Counters.{datagram_kind, arrival_counter, outcome_counter, response_counter, HasRaised, HasCounted};
-ghost use Rattle.server.specs.CounterValues.{kind_index, reason_index, counter_index, counter_value};
+ghost use Rattle.std.specs.Prelude.{◌≡◌, ◌<◌, ◌≤◌};
+ghost use Rattle.server.specs.Counters.{datagram_kind, arrival_counter, outcome_counter, response_counter, counted_verdict, HasRaised, HasCounted, HasCountedVerdict};
+ghost use Rattle.server.specs.CounterValues.{kind_index, reason_index, counter_index, counter_value, verdict_value};
 
 use crate::link::Place;
 use control::Response;
 use credentials::AuthError;
+use machine::Side;
 use rules::{Discard, Disposition};
 
 /// What a datagram that came is (RFC 8656, section 12).
@@ -68,6 +69,9 @@ const REASON_COUNT: usize = 12;
 /// The number of counters.
 const COUNTER_COUNT: usize = 59;
 
+/// The verdicts that are counted each on its own are those below this number; the others are counted together.
+pub const VERDICTS: usize = 16;
+
 /// All kinds of datagrams.
 pub const KINDS: [Kind; 4] = [
     Kind::ChannelData,
@@ -92,10 +96,18 @@ pub const REASONS: [Discard; REASON_COUNT] = [
     Discard::Confined,
 ];
 
+/// How often the programs of the two sides ended with which verdict.
+#[derive(Drop)]
+pub(crate) struct VerdictCounts {
+    pub(crate) client: [u64; VERDICTS + 1],
+    pub(crate) peer: [u64; VERDICTS + 1],
+}
+
 /// The counters of a server, which stay at [`u64::MAX`] once they are there.
 #[derive(Drop)]
 pub struct Counters {
     values: [u64; COUNTER_COUNT],
+    verdicts: VerdictCounts,
 }
 
 impl Kind {
@@ -195,6 +207,19 @@ fn reason_index(reason: Discard) -> usize
     }
 }
 
+/// Returns the index of the count of a verdict, at most [`VERDICTS`].
+#[inline(always)]
+fn verdict_index(verdict: u64) -> usize
+    ensures index { result ≡ counted_verdict verdict }
+    ensures most { result ≤ VERDICTS }
+{
+    if verdict < VERDICTS as u64 {
+        verdict as usize
+    } else {
+        VERDICTS
+    }
+}
+
 impl Counter {
     /// Returns the index of the counter, below [`COUNTER_COUNT`].
     #[inline(always)]
@@ -222,14 +247,21 @@ impl Counter {
 }
 
 impl Counters {
+    ghost use Rattle.std.specs.Prelude.{ℕ};
+    ghost use Rattle.machine.specs.declared.context.Side.{Side};
     ghost use Rattle.server.specs.declared.counters.Counter.{Counter};
 
     /// Returns counters that are all 0.
     pub const fn new() -> Counters
-        ensures { (c : Counter) → counter_value result c ≡ 0 }
+        ensures counters { (c : Counter) → counter_value result c ≡ 0 }
+        ensures verdicts { (v : Side × ℕ) → verdict_value result v ≡ 0 }
     {
         Counters {
             values: [0; COUNTER_COUNT],
+            verdicts: VerdictCounts {
+                client: [0; VERDICTS + 1],
+                peer: [0; VERDICTS + 1],
+            },
         }
     }
 
@@ -240,10 +272,22 @@ impl Counters {
         self.values[counter.index()]
     }
 
+    /// Returns how often the program of a side ended with a verdict; from 16 on, with any of those.
+    pub fn verdict_count(&self, side: Side, verdict: u64) -> u64
+        ensures { result ≡ verdict_value self.now (side, counted_verdict verdict) }
+    {
+        let index = verdict_index(verdict);
+        match side {
+            Side::Client => self.verdicts.client[index],
+            Side::Peer => self.verdicts.peer[index],
+        }
+    }
+
     /// Adds one to a counter.
     #[inline(always)]
     fn raise(&mut self, counter: Counter)
-        ensures { HasRaised counter (counter_value self.old) (counter_value self.new) }
+        ensures raised { HasRaised counter (counter_value self.old) (counter_value self.new) }
+        ensures verdicts { self.new.verdicts ≡ self.old.verdicts }
     {
         let index = counter.index();
         self.values[index] = self.values[index].saturating_add(1);
@@ -252,15 +296,40 @@ impl Counters {
     /// Counts a datagram of a kind that came, with what became of it.
     #[inline(always)]
     pub fn count(&mut self, kind: Kind, outcome: Outcome)
-        ensures { HasCounted kind outcome (counter_value self.old) (counter_value self.new) }
+        ensures counted { HasCounted kind outcome (counter_value self.old) (counter_value self.new) }
+        ensures verdicts { self.new.verdicts ≡ self.old.verdicts }
     {
         self.raise(kind.arrival_counter());
         self.raise(outcome.counter(kind));
     }
 
+    /// Counts the verdict of the program of a side, if it ran.
+    /// See docs/DECISIONS.md, "Verdicts are counted up to 15".
+    #[inline(always)]
+    pub fn count_verdict(&mut self, side: Side, verdict: Option<u64>)
+        ensures counted { HasCountedVerdict side verdict (verdict_value self.old) (verdict_value self.new) }
+        ensures rest { self.new ≡ record self.old { verdicts = self.new.verdicts } }
+    {
+        let Some(verdict) = verdict else {
+            return;
+        };
+        let index = verdict_index(verdict);
+        match side {
+            Side::Client => {
+                let count = self.verdicts.client[index];
+                self.verdicts.client[index] = count.saturating_add(1);
+            }
+            Side::Peer => {
+                let count = self.verdicts.peer[index];
+                self.verdicts.peer[index] = count.saturating_add(1);
+            }
+        }
+    }
+
     /// Counts a receive that failed.
     pub fn fault(&mut self)
-        ensures { HasRaised Counter.ReceiveFaults (counter_value self.old) (counter_value self.new) }
+        ensures counted { HasRaised Counter.ReceiveFaults (counter_value self.old) (counter_value self.new) }
+        ensures verdicts { self.new.verdicts ≡ self.old.verdicts }
     {
         self.raise(Counter::ReceiveFaults);
     }

@@ -1,12 +1,14 @@
-//! Recorders: what keeps the datagrams that come.
+//! Recorders: what keeps the datagrams that come, and looks at them beside the relay.
 
-ghost use Rattle.std.specs.Prelude.{Option, None, List, [], ◌∷◌};
+ghost use Rattle.std.specs.Prelude.{◌≡◌, ◌≤◌, Option, None, List, [], ◌∷◌};
 ghost use Rattle.events.specs.Events.{Event, Datagram};
 ghost use Rattle.server.specs.Calls.{HasReported};
+ghost use Rattle.semantics.specs.declared.limits.TheConstants.{MAX_DATAGRAM};
 
 use events::Meta;
+use relay::Relay;
 
-/// What keeps the datagrams that come, as the record of a server.
+/// What keeps the datagrams that come, as the record of a server, or looks at them beside the relay, as a shadow.
 pub trait Recorder {
     /// The events so far, of a recorder that reports them; `None` of one that doesn't, or that has stopped for good.
     ghost events: { Self → Option (List Event) } = { λ _. None };
@@ -14,6 +16,11 @@ pub trait Recorder {
     /// Adds a datagram that has come, before it is decided.
     fn record(&mut self, meta: &Meta, datagram: &[u8])
         ensures { HasReported (events self.old) (events self.new) (Datagram meta.entry.now datagram.now ∷ []) };
+
+    /// Looks at a datagram that has come, the first `n` bytes of the relay's room, before its step. The relay stays as it is.
+    fn look(&mut self, relay: &Relay, meta: &Meta, n: usize)
+        requires { n ≤ MAX_DATAGRAM }
+        ensures { events self.new ≡ events self.old };
 }
 
 /// Keeps nothing.
@@ -22,4 +29,6 @@ pub(crate) struct Unrecorded;
 
 impl Recorder for Unrecorded {
     fn record(&mut self, _meta: &Meta, _datagram: &[u8]) {}
+
+    fn look(&mut self, _relay: &Relay, _meta: &Meta, _n: usize) {}
 }

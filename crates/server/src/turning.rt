@@ -3,8 +3,8 @@
 ghost use Rattle.std.specs.Prelude.{◌≡◌, ◌≤◌, [], ◌∷◌, length, Result, IfOk, IfSome};
 ghost use Rattle.events.specs.Actions.{sending_of};
 ghost use Rattle.server.specs.Calls.{Sent, HasReported};
-ghost use Rattle.server.specs.CounterValues.{counter_value};
-ghost use Rattle.server.specs.Turns.{IsReceived, source_at, may_answer, may_reach, outcome_of_send, IsAnswered, IsTurn, HasCountedTurn};
+ghost use Rattle.server.specs.CounterValues.{counter_value, verdict_value};
+ghost use Rattle.server.specs.Turns.{IsReceived, source_at, may_answer, may_reach, outcome_of_send, IsAnswered, IsTurn, HasCountedTurn, HasCountedTurnVerdict};
 ghost use Rattle.server.specs.declared.link.LinkFault.{LinkFault};
 
 use crate::counters::{Counters, Kind, Outcome};
@@ -13,7 +13,7 @@ use crate::recorder::Recorder;
 use attributes::Addr;
 use events::{Action, Meta, Source};
 use peer_filter::PeerFilter;
-use relay::{Disposition, Relay};
+use relay::{Disposition, Relay, side_of};
 use semantics::MAX_DATAGRAM;
 
 /// Where a datagram may have come, when, and the transaction id for an indication about it.
@@ -35,6 +35,8 @@ pub struct Served {
     pub kind: Kind,
     /// What became of it.
     pub outcome: Outcome,
+    /// The verdict of the program that ran over it, if one ran.
+    pub verdict: Option<u64>,
 }
 
 /// A datagram that came, in the first bytes of the relay's room.
@@ -179,12 +181,14 @@ pub(crate) fn take<L: Link, R: Recorder>(
     let Some(arrived) = receive(relay.area(), link, recorder, arrival)? else {
         return Ok(None);
     };
+    recorder.look(relay, &arrived.meta, arrived.n);
     let step = relay.step(arrived.meta, arrived.n);
     let outcome = answer(link, filter, &step.action, step.disposition);
     Ok(Some(Served {
         from: arrived.meta.from,
         kind: arrived.kind,
         outcome,
+        verdict: step.verdict,
     }))
 }
 
@@ -207,10 +211,14 @@ pub fn turn<L: Link, R: Recorder>(
     ensures taken { IsTurn filter.now arrival relay.old relay.new (L.calls link.old) (L.calls link.new)
         (R.events recorder.old) (R.events recorder.new) result }
     ensures counted { HasCountedTurn result (counter_value counters.old) (counter_value counters.new) }
+    ensures verdicts { HasCountedTurnVerdict result (verdict_value counters.old) (verdict_value counters.new) }
 {
     let taken = take(relay, link, recorder, filter, arrival);
     match taken {
-        Ok(Some(served)) => counters.count(served.kind, served.outcome),
+        Ok(Some(served)) => {
+            counters.count_verdict(side_of(&served.from), served.verdict);
+            counters.count(served.kind, served.outcome);
+        }
         Ok(None) => {}
         Err(LinkFault) => counters.fault(),
     }

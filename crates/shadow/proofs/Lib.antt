@@ -1,0 +1,2 @@
+mod Comparisons
+mod CountIndices

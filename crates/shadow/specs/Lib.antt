@@ -1,0 +1,3 @@
+-- Internal. The modules of this folder.
+pub mod Comparisons
+pub mod CountValues
