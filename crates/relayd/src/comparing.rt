@@ -2,19 +2,14 @@
 
 ghost use Rattle.std.specs.Prelude.{◌≡◌, false};
 
-use crate::options::CommandError;
+use crate::options::{CommandError, unread};
 use crate::replay_command::replay_fault;
-use basics::streams::{Input, Output};
+use basics::streams::{self, Output};
 use relay::{Relay, next_line};
 use std::alloc::Global;
-use std::io::{self, BufRead, BufWriter, Write};
-
-/// The relay with the programs of the options, and the one with those that are compared.
-#[derive(Drop)]
-pub(crate) struct Relays<'r> {
-    pub(crate) old: &'r mut Relay,
-    pub(crate) new: &'r mut Relay,
-}
+use std::fs;
+use std::io::{self, BufRead, BufReader, BufWriter, Write};
+use std::rt::Files;
 
 /// How many events were replayed, and how many answers differ.
 #[derive(Clone, Copy)]
@@ -51,39 +46,35 @@ fn answer_of<'a>(
     }
 }
 
-impl Relays<'_> {
-    /// Replays the event of a line of this number, and writes both answers where they differ. Returns whether they do.
-    fn compare<'a, W: Write>(
-        &mut self,
-        alloc: Global,
-        line: &[u8],
-        number: u64,
-        out: &mut W,
-    ) -> Result<bool, CommandError<'a>> {
-        let old = answer_of(alloc, self.old, line, number)?;
-        let new = answer_of(alloc, self.new, line, number)?;
-        if without_reason(old.as_str()) == without_reason(new.as_str()) {
-            return Ok(false);
-        }
-        match write!(out, "{number} - {old}{number} + {new}") {
-            Ok(()) => Ok(true),
-            Err(_) => Err(CommandError::Output),
-        }
+/// Writes the answers of two relays to the event of a line of this number where they differ. Returns whether they do.
+fn write_differing<'a, W: Write>(
+    number: u64,
+    old: &str,
+    new: &str,
+    out: &mut W,
+) -> Result<bool, CommandError<'a>> {
+    if without_reason(old) == without_reason(new) {
+        return Ok(false);
+    }
+    match write!(out, "{number} - {old}{number} + {new}") {
+        Ok(()) => Ok(true),
+        Err(_) => Err(CommandError::Output),
     }
 }
 
-/// Replays the events of an input, and writes the answers that differ.
+/// Replays the events of an input through two relays, and writes the answers that differ.
 fn compare_lines<'a, B: BufRead + Drop, W: Write>(
     alloc: Global,
-    mut relays: Relays<'_>,
-    input: &mut Input<B>,
+    old: &mut Relay,
+    new: &mut Relay,
+    input: &mut streams::Input<B>,
     events: &'a str,
     out: &mut W,
 ) -> Result<Differences, CommandError<'a>>
     requires { input.old.failed ≡ false }
 {
     let mut line = Vec::new(alloc);
-    let mut differing = 0;
+    let mut differing = 0u64;
     for number in 1..u64::MAX {
         match next_line(input, &mut line) {
             Ok(true) => {}
@@ -95,8 +86,10 @@ fn compare_lines<'a, B: BufRead + Drop, W: Write>(
             }
             Err(error) => return Err(replay_fault(error, events)),
         }
-        if relays.compare(alloc, &line, number, out)? {
-            differing += 1;
+        let first = answer_of(alloc, old, &line, number)?;
+        let second = answer_of(alloc, new, &line, number)?;
+        if write_differing(number, first.as_str(), second.as_str(), out)? {
+            differing = differing.saturating_add(1);
         }
     }
     Ok(Differences {
@@ -105,20 +98,21 @@ fn compare_lines<'a, B: BufRead + Drop, W: Write>(
     })
 }
 
-/// Replays the events of a reader with two pairs of programs, each from the start, and prints the answers that differ, each pair
-/// with its reasons, and then how many differ.
+/// Replays the events of a reader through two relays, each from the start, and prints the answers that differ, each pair with its
+/// reasons, and then how many differ.
 /// See docs/DECISIONS.md, "Answers of two replays" and "Answers before a fault".
-pub(crate) fn compare_events<'a, R: Print + AllocGlobal, B: BufRead + Drop>(
+fn compare_events<'a, R: Print + AllocGlobal, B: BufRead + Drop>(
     rt: &R,
-    relays: Relays<'_>,
+    old: &mut Relay,
+    new: &mut Relay,
     reader: B,
     events: &'a str,
 ) -> Result<(), CommandError<'a>> {
     let Ok(mut out) = BufWriter::new(rt.alloc(), io::writer(rt)) else {
         return Err(CommandError::Memory);
     };
-    let mut input = Input::new(reader);
-    let compared = compare_lines(rt.alloc(), relays, &mut input, events, &mut out);
+    let mut input = streams::Input::new(reader);
+    let compared = compare_lines(rt.alloc(), old, new, &mut input, events, &mut out);
     if let Ok(Differences { events, differing }) = &compared
         && writeln!(out, "{differing} of {events} answers differ").is_err()
     {
@@ -130,5 +124,29 @@ pub(crate) fn compare_events<'a, R: Print + AllocGlobal, B: BufRead + Drop>(
     match compared {
         Ok(_) => Ok(()),
         Err(error) => Err(error),
+    }
+}
+
+/// Replays the events of a file, or of standard input for the file `-`, through two relays, and prints the answers that differ.
+/// See docs/DECISIONS.md, "Events from standard input".
+pub(crate) fn compare_file<'a, R: Files + Input + Print + AllocGlobal>(
+    rt: &R,
+    old: &mut Relay,
+    new: &mut Relay,
+    events: &'a str,
+) -> Result<(), CommandError<'a>> {
+    if events == "-" {
+        return match BufReader::new(rt.alloc(), rt.reader()) {
+            Ok(reader) => compare_events(rt, old, new, reader, events),
+            Err(_) => Err(CommandError::Memory),
+        };
+    }
+    let file = match fs::open(rt, events) {
+        Ok(file) => file,
+        Err(error) => return Err(unread(&error, events)),
+    };
+    match BufReader::new(rt.alloc(), file) {
+        Ok(reader) => compare_events(rt, old, new, reader, events),
+        Err(_) => Err(CommandError::Memory),
     }
 }

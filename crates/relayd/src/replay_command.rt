@@ -1,6 +1,6 @@
 //! The command `replay`: replays the events of a file through a relay.
 
-use crate::comparing::{Relays, compare_events};
+use crate::comparing::compare_file;
 use crate::covering::{cover_events, trace_event};
 use crate::options::{CommandError, Prepared, ProgramBytes, Relayed, set_up, unread};
 use crate::reports::{map_of, read_lines};
@@ -108,42 +108,20 @@ pub(crate) fn replay_fault<'a>(error: ReplayError, events: &'a str) -> CommandEr
     }
 }
 
-/// What is replayed: a relay, the source maps of its programs, and the relay with the programs that are compared, if there is one.
-#[derive(Drop)]
-struct Replayed<'r, 't> {
-    prepared: &'r mut Prepared,
-    maps: &'r Maps<'t>,
-    other: Option<&'r mut Prepared>,
-}
-
-/// Replays the events of a reader as it is asked for: the run of one event, the answers that differ, or all answers, with what of
-/// the programs the events met.
+/// Replays the events of a reader as it is asked for: the run of one event, or all answers, with what of the programs the events met.
 fn play_as<'a, R: Print + AllocGlobal, E: Write, B: BufRead + Drop>(
     rt: &R,
     err: &mut E,
-    replayed: Replayed<'_, '_>,
+    prepared: &mut Prepared,
+    maps: &Maps<'_>,
     reader: B,
     replay: &ReplayOptions<'a>,
 ) -> Result<(), CommandError<'a>> {
-    let Replayed {
-        prepared,
-        maps,
-        other,
-    } = replayed;
-    if let Some(number) = replay.trace {
-        return trace_event(rt, &mut prepared.relay, maps, reader, replay, number);
+    match replay.trace {
+        Some(number) => trace_event(rt, &mut prepared.relay, maps, reader, replay, number),
+        None if replay.cover => cover_events(rt, err, prepared, maps, reader, replay),
+        None => play(rt, &mut prepared.relay, reader, replay),
     }
-    if let Some(other) = other {
-        let relays = Relays {
-            old: &mut prepared.relay,
-            new: &mut other.relay,
-        };
-        return compare_events(rt, relays, reader, replay.events);
-    }
-    if replay.cover {
-        return cover_events(rt, err, prepared, maps, reader, replay);
-    }
-    play(rt, &mut prepared.relay, reader, replay)
 }
 
 /// Replays the events of a file, or of standard input for the file `-`.
@@ -151,12 +129,13 @@ fn play_as<'a, R: Print + AllocGlobal, E: Write, B: BufRead + Drop>(
 fn replay_file<'a, R: Files + Input + Print + AllocGlobal, E: Write>(
     rt: &R,
     err: &mut E,
-    replayed: Replayed<'_, '_>,
+    prepared: &mut Prepared,
+    maps: &Maps<'_>,
     replay: &ReplayOptions<'a>,
 ) -> Result<(), CommandError<'a>> {
     if replay.events == "-" {
         return match BufReader::new(rt.alloc(), rt.reader()) {
-            Ok(reader) => play_as(rt, err, replayed, reader, replay),
+            Ok(reader) => play_as(rt, err, prepared, maps, reader, replay),
             Err(_) => Err(CommandError::Memory),
         };
     }
@@ -165,17 +144,23 @@ fn replay_file<'a, R: Files + Input + Print + AllocGlobal, E: Write>(
         Err(error) => return Err(unread(&error, replay.events)),
     };
     match BufReader::new(rt.alloc(), file) {
-        Ok(reader) => play_as(rt, err, replayed, reader, replay),
+        Ok(reader) => play_as(rt, err, prepared, maps, reader, replay),
         Err(_) => Err(CommandError::Memory),
     }
 }
 
+/// Returns the relayed addresses of a replay.
+fn relayed_of(options: &Options<'_>) -> Relayed {
+    Relayed {
+        ip: options.relay_ip.unwrap_or(defaults::RELAY_IP).octets(),
+        ip6: options.relay_ip6,
+    }
+}
+
 /// Replays events through two relays, the other one with the programs that are compared.
-fn replay_against<'a, R: Files + Input + Print + AllocGlobal, E: Write>(
+fn replay_against<'a, R: Files + Input + Print + AllocGlobal>(
     rt: &R,
-    err: &mut E,
     prepared: &mut Prepared,
-    maps: &Maps<'_>,
     replay: &ReplayOptions<'a>,
     options: &Options<'a>,
 ) -> Result<(), CommandError<'a>> {
@@ -186,41 +171,19 @@ fn replay_against<'a, R: Files + Input + Print + AllocGlobal, E: Write>(
     };
     let relayed = relayed_of(options);
     let mut other = set_up(rt, &others, replay.nonce, relayed, replay.confine)?;
-    let replayed = Replayed {
-        prepared,
-        maps,
-        other: Some(&mut other),
-    };
-    replay_file(rt, err, replayed, replay)
+    compare_file(rt, &mut prepared.relay, &mut other.relay, replay.events)
 }
 
-/// Replays events through a relay, whose programs may have source maps.
+/// Replays events through a relay, whose programs have source maps of these texts.
 fn replay_mapped<'a, R: Files + Input + Print + AllocGlobal, E: Write>(
     rt: &R,
     err: &mut E,
     prepared: &mut Prepared,
     texts: &MapTexts,
     replay: &ReplayOptions<'a>,
-    options: &Options<'a>,
 ) -> Result<(), CommandError<'a>> {
     let maps = maps_of(rt.alloc(), texts, &prepared.programs)?;
-    if replay.against.is_some() || replay.against_peer.is_some() {
-        return replay_against(rt, err, prepared, &maps, replay, options);
-    }
-    let replayed = Replayed {
-        prepared,
-        maps: &maps,
-        other: None,
-    };
-    replay_file(rt, err, replayed, replay)
-}
-
-/// Returns the relayed addresses of a replay.
-fn relayed_of(options: &Options<'_>) -> Relayed {
-    Relayed {
-        ip: options.relay_ip.unwrap_or(defaults::RELAY_IP).octets(),
-        ip6: options.relay_ip6,
-    }
+    replay_file(rt, err, prepared, &maps, replay)
 }
 
 /// Replays events through the relay that the options describe. The source maps are read first.
@@ -236,7 +199,10 @@ fn replay_events<'a, R: Files + Input + Print + AllocGlobal, E: Write>(
     };
     let relayed = relayed_of(options);
     let mut prepared = set_up(rt, options, replay.nonce, relayed, replay.confine)?;
-    replay_mapped(rt, err, &mut prepared, &texts, replay, options)
+    if replay.trace.is_none() && (replay.against.is_some() || replay.against_peer.is_some()) {
+        return replay_against(rt, &mut prepared, replay, options);
+    }
+    replay_mapped(rt, err, &mut prepared, &texts, replay)
 }
 
 /// Replays events, prints the answers, or the line of the first fault to `err`, and returns the exit status.
