@@ -156,9 +156,10 @@ def refused_runs(words, library, lasting, **options):
 
 
 def is_out_of_memory(words, end, normal):
-    """Whether a run says that memory ran out, and printed nothing else; `explain` prints its lines as it makes them."""
+    """Whether a run says that memory ran out, and printed nothing else; `explain` prints its lines as it makes them, and what a
+    replay has compared is printed before a fault."""
     status, printed, said = end
-    begun = words[:1] == ["explain"] and normal[1].startswith(printed)
+    begun = (words[:1] == ["explain"] or "--against" in words) and normal[1].startswith(printed)
     return (status, said) == (OUT_OF_MEMORY[0], OUT_OF_MEMORY[2]) and (begun or not printed)
 
 
