@@ -14,9 +14,9 @@ import tempfile
 import time
 
 from lib.program import assembled, explained, run_parts, shipped
-from lib.rules import BINDING
+from lib.rules import ALLOCATE, BINDING
 from lib.server import (
-    BAD, DISCARD, PERIOD, USER, Client, Server, address_of, channel_data, code_of, put, replayed, run, samples_of, udp_socket, wanted)
+    BAD, DISCARD, PERIOD, UDP, USER, Client, Server, address_of, channel_data, code_of, put, replayed, run, samples_of, udp_socket, wanted)
 
 # Passes a client's datagram on with another second byte.
 OTHER_BYTES = """
@@ -84,7 +84,7 @@ def session(client, peer, server):
     """Yields what is otherwise in a session of four datagrams of the client and one of the peer: an allocation without
     credentials and with them, a channel, and data over it, there and back."""
     yield from wanted("the challenge", code_of(client.challenge()), 401)
-    yield from wanted("Allocate", code_of(client.signed(0x0003, [(0x0019, bytes([17, 0, 0, 0]))])), 0)
+    yield from wanted("Allocate", code_of(client.signed(ALLOCATE, [UDP])), 0)
     yield from wanted("ChannelBind", code_of(client.bind(address_of(peer))), 0)
     client.send(channel_data(b"there"))
     yield from wanted("data", peer.recv(100), b"there")
