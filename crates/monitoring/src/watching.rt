@@ -1,9 +1,9 @@
 //! What is done with each datagram beside the relay: it is recorded, and shadows are compared.
 
 use crate::recording::Recording;
-use events::Meta;
+use events::{Meta, Source};
 use machine::Side;
-use relay::Relay;
+use relay::{Relay, Step};
 use server::Recorder;
 use shadow::{Comparison, Shadows};
 use std::alloc::{AllocError, Global};
@@ -93,8 +93,13 @@ impl Recorder for Watch<'_> {
     }
 
     #[inline(always)]
-    fn look(&mut self, relay: &Relay, meta: &Meta, n: usize) {
-        if let Some((side, comparison)) = self.shadows.compare_datagram(relay, meta, n) {
+    fn before_step(&mut self, relay: &Relay, meta: &Meta, n: usize) {
+        self.shadows.choose(relay, meta, n);
+    }
+
+    #[inline(always)]
+    fn after_step(&mut self, from: &Source, step: &Step<'_>) {
+        if let Some((side, comparison)) = self.shadows.compare_with(from, step.choice()) {
             self.name(side, comparison);
         }
     }

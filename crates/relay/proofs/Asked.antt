@@ -10,8 +10,9 @@ use Rattle.rules.specs.Systems.{is_served}
 use Rattle.tables.specs.Moments.{moment_of}
 use Rattle.tables.specs.Rows.{rows_at}
 use Rattle.relay.specs.ByPrograms.{is_there, program_for}
+use Rattle.relay.specs.Choices.{chosen_of}
 use Rattle.relay.specs.EventRuns.{exit_verdict, verdict_of_datagram}
-use Rattle.relay.specs.Relays.{RelayContents}
+use Rattle.relay.specs.Relays.{RelayContents, datagram_at}
 use Rattle.relay.specs.Steps.{disposition_of_step, outcome_of}
 use Rattle.relay.specs.Unconfined.{IsSameUnconfined, asking}
 
@@ -26,6 +27,10 @@ same_outcome false r given n same = sym (same refl).outcome
 pub same_disposition : (asks : Bool) (r : RelayContents) (given : Meta) (n : ℕ) → Decides asks r given n → disposition_of_step (asking asks r) given n ≡ disposition_of_step r given n
 same_disposition true r given n same = refl
 same_disposition false r given n same = sym (same refl).disposition
+
+pub same_choice : (asks : Bool) (r : RelayContents) (given : Meta) (n : ℕ) → Decides asks r given n → chosen_of (asking asks r) given (datagram_at r n) ≡ chosen_of r given (datagram_at r n)
+same_choice true r given n same = refl
+same_choice false r given n same = sym (same refl).choice
 
 -- ---- the verdict
 

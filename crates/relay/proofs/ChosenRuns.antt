@@ -10,7 +10,7 @@ use Rattle.machine.specs.Contents.{datagram_of}
 use Rattle.machine.specs.declared.outcome.Outcome.{Outcome}
 use Rattle.tables.specs.Moments.{moment_of}
 use Rattle.tables.specs.Rows.{Rows, rows_at}
-use Rattle.events.specs.Events.{Datagram, Sending}
+use Rattle.events.specs.Events.{Sending}
 use Rattle.events.specs.declared.meta.Meta.{Meta}
 use Rattle.events.specs.declared.meta.Source.{Source}
 use Rattle.events.specs.declared.meta.Source.TheVariants.{Client, Peer}
@@ -19,11 +19,12 @@ use Rattle.programs.specs.declared.verdict.TheConstants.{PASSES, SENDS}
 use Rattle.rules.specs.ByRules.{from_client}
 use Rattle.rules.specs.Systems.{SystemReply, is_served, no_answer, outcome_at, reply_of_relaying, with_nonce}
 use Rattle.rules.specs.declared.confinement.Confinement.{Confinement}
-use Rattle.relay.specs.ByPrograms.{Programs, by_programs, by_run, is_there, let_through, of_ending, of_passing, of_run, of_verdict, program_for}
-use Rattle.relay.specs.Choices.{Chosen, Passing, Relaying, chosen_at, chosen_by_run, chosen_of, programs_with, with_program, SameChoiceIsSameStep}
-use Rattle.relay.specs.Found.{HasRun, run_at, window_shown}
+use Rattle.relay.specs.ByPrograms.{Programs, by_run, is_there, let_through, of_ending, of_passing, program_for}
+use Rattle.relay.specs.Choices.{Chosen, Passing, Relaying, chosen_at, chosen_by_run, programs_with, SameChoiceIsSameStep}
+use Rattle.relay.specs.Found.{HasRun, chosen_of_found, is_of_window, run_at, sending_of_found, window_shown}
 use Rattle.relay.specs.Relays.{RelayContents, datagram_at, state_of}
-use Rattle.relay.specs.Steps.{outcome_of}
+use Rattle.relay.specs.declared.found.Found.{Found}
+use Rattle.relay.specs.declared.found.Found.TheVariants as found
 use Rattle.relay.proofs.Advances.{end_discards, end_passes_client, end_passes_peer, end_sends}
 use Rattle.relay.proofs.Confined.{nothing_through}
 
@@ -32,6 +33,15 @@ use Rattle.relay.proofs.Confined.{nothing_through}
 pub program_with : (programs : Programs) (from : Source) (program : List Insn) → program_for (programs_with programs from program) from ≡ program
 program_with programs (Client client) program = refl
 program_with programs (Peer slot peer) program = refl
+
+-- ---- what is chosen by what was found
+
+pub of_window : (r : RelayContents) (from : Source) (f : Found) → is_of_window f ≡ true → chosen_of_found r from f ≡ Relaying (sending_of_found r from f)
+of_window r from (found.Nothing reason) is = refl
+of_window r from found.Stopped is = refl
+of_window r from (found.WindowToPeer slot peer) is = refl
+of_window r from (found.WindowToClient client) is = refl
+of_window r from (found.Answer answer) is = absurd cc
 
 -- ---- what is chosen by a run
 

@@ -1,5 +1,5 @@
 -- The shipped programs do the same whether they are confined or not: what they send is permitted.
-use Rattle.std.proofs.Common.{◌≡◌, ℕ, List, [], true, false, inl, inr, refl, sym, ap, subst, ◌∙◌}
+use Rattle.std.proofs.Common.{◌≡◌, ℕ, List, [], length, ◌&&◌, true, false, inl, inr, refl, sym, ap, subst, ◌∙◌}
 use Rattle.std.specs.Prelude.{Option, None, Some, IfSome, if◌then◌else◌}
 use Rattle.std.proofs.lemmas.Bool.{cases_Bool}
 use Rattle.std.proofs.lemmas.Option.{none-some, same_Some}
@@ -17,8 +17,10 @@ use Rattle.tables.specs.laws.WellFormed.{rows_at-well_formed}
 use Rattle.events.specs.Events.{Sending}
 use Rattle.events.specs.declared.meta.Source.{Source}
 use Rattle.events.specs.declared.meta.Source.TheVariants.{Client, Peer}
+use Rattle.programs.specs.Runs.{run_for}
 use Rattle.programs.specs.Relaying.{IsRelayStart, PassesOn, Relays, ServesClient, ServesPeer}
 use Rattle.relay.specs.ByPrograms.{Programs, by_programs, disposition_of_datagram, disposition_of_sent, is_there, let_through, program_for, relayed_where_sent}
+use Rattle.relay.specs.Choices.{Chosen, Passing, Relaying, chosen_by_run}
 use Rattle.relay.specs.Shipped.{AreShipped}
 use Rattle.relay.proofs.Confined.{all_relayed, all_through}
 use Rattle.relay.proofs.ShippedRules.{ClientServes, PeerServes, end, ends_passed, ends_relayed}
@@ -80,6 +82,13 @@ module _ (serves_client : ClientServes) (serves_peer : PeerServes) (programs : P
   abbrev free : Programs
   free = record programs { confinement = None }
 
+  -- what some programs do
+  abbrev chose : Programs → Source → Chosen
+  chose of from =
+      if is_served from && is_there from rows
+      then chosen_by_run of.confinement from live (length datagram) (run_for (program_for of from) tx from live datagram)
+      else Relaying None
+
   start : (address : Addr) → IsAddress address → IsRelayStart address tx live datagram
   start address fits = record { well_formed = rows_at-well_formed now rows well_formed; is_address = fits; id_bytes = is_id; is_datagram = is }
 
@@ -106,3 +115,9 @@ module _ (serves_client : ClientServes) (serves_peer : PeerServes) (programs : P
       ap (λ (done : Disposition). if is_served from then (if is_there from rows then done else Discarded NotServed) else Discarded NotServed)
       (both_alike (λ client bytes. client_disposition config now client rows bytes) (λ from. disposition_of_sent programs.confinement from live)
       (λ from. relayed_where_sent) from fits (all_relayed from live programs.confinement))
+
+  pub choice_unconfined : (from : Source) → IsAddress (address_of_source from) → chose programs from ≡ chose free from
+  choice_unconfined from fits =
+      ap (λ (chosen : Chosen). if is_served from && is_there from rows then chosen else Relaying None)
+      (both_alike (λ client bytes. Passing bytes) (λ from sent. Relaying (let_through programs.confinement from live sent))
+      (λ from sent. Relaying sent) from fits (λ sends permitted. ap Relaying (all_through from live programs.confinement sends permitted)))

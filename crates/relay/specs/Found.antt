@@ -18,6 +18,7 @@ use Rattle.tables.specs.LookUps.{bound_channel, held_by, held_in, permission_of}
 use Rattle.tables.specs.declared.held.Held.{Held}
 use Rattle.semantics.specs.Runs.{Run}
 use Rattle.relay.specs.ByPrograms.{program_for, relayed_where_sent}
+use Rattle.relay.specs.Choices.{Chosen, Passing, Relaying}
 use Rattle.rules.specs.Answers.{sending_of_answer, LiesInRoom}
 use Rattle.rules.specs.ByRules.{from_client}
 use Rattle.rules.specs.Dispositions.{client_disposition, disposition_of}
@@ -70,6 +71,15 @@ sending_of_found r from (found.WindowToPeer slot peer) = option_map (ToPeer slot
 sending_of_found r from (found.WindowToClient client) = option_map (ToClient client) (window_shown r.frame)
 sending_of_found r (Client client) (found.Answer answer) = sending_of_answer client (datagram_of r.frame) r.reply answer
 sending_of_found r (Peer slot peer) (found.Answer answer) = None
+
+-- what the program did with the datagram
+abbrev pub chosen_of_found : RelayContents → Source → Found → Chosen
+chosen_of_found r from (found.Nothing reason) = Relaying (sending_of_found r from (found.Nothing reason))
+chosen_of_found r from found.Stopped = Relaying (sending_of_found r from found.Stopped)
+chosen_of_found r from (found.WindowToPeer slot peer) = Relaying (sending_of_found r from (found.WindowToPeer slot peer))
+chosen_of_found r from (found.WindowToClient client) = Relaying (sending_of_found r from (found.WindowToClient client))
+chosen_of_found r (Client client) (found.Answer answer) = Passing (datagram_of r.frame)
+chosen_of_found r (Peer slot peer) (found.Answer answer) = Relaying None
 
 -- whether it is of the window, rather than an answer of the rules
 abbrev pub is_of_window : Found → Bool

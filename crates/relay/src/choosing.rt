@@ -1,17 +1,18 @@
 //! What a program would do with a datagram, in the state of a relay that stays as it is.
 
-ghost use Rattle.std.specs.Prelude.{◌≡◌, ℕ, List, true, option_copied};
-ghost use Rattle.events.specs.Actions.{sending_of};
+ghost use Rattle.std.specs.Prelude.{◌≡◌, ℕ, List, true};
 ghost use Rattle.events.specs.declared.meta.Meta.{Meta};
 ghost use Rattle.events.specs.declared.meta.Source.{Source};
 ghost use Rattle.insn.specs.declared.instruction.Insn.{Insn};
-ghost use Rattle.relay.specs.Choices.{SameChoiceIsSameStep};
-ghost use Rattle.relay.specs.Found.{is_of_window, sending_of_found, window_shown};
+ghost use Rattle.relay.specs.Choices.{Relaying, SameChoiceIsSameStep};
+ghost use Rattle.relay.specs.Found.{is_of_window, sending_of_found};
+ghost use Rattle.relay.specs.Lent.{chosen_by_route};
 ghost use Rattle.relay.specs.Relays.{RelayContents};
 
 use crate::found::{Found, window_found, window_to_client, window_to_peer};
 use crate::relay::{Relay, is_served};
 use crate::running::{context_for, live_for, run_over};
+use attributes::Addr;
 use events::{Action, Meta, Source};
 use helpers::Lookup;
 use machine::{Frame, MAX_DATAGRAM, Outcome};
@@ -28,22 +29,55 @@ pub enum Choice<'a> {
     Sends(Action<'a>),
 }
 
-/// Sends the window of what was found, which isn't an answer of the rules.
-fn window_sent(found: Found, window: Option<&[u8]>) -> Action<'_>
+/// Where what a program would do with a datagram leads. The bytes are in the frame over which it ran.
+#[derive(Clone, Copy, Debug)]
+pub enum Route {
+    /// Nothing is sent.
+    Nowhere,
+    /// The rules get the datagram.
+    ToRules,
+    /// The window, from a slot to a peer.
+    ToPeer { slot: usize, peer: Addr },
+    /// The window, to a client.
+    ToClient { client: Addr },
+}
+
+impl Route {
+    ghost use Rattle.std.specs.Prelude.{◌≡◌};
+    ghost use Rattle.relay.specs.Lent.{chosen_by_route, chosen_in};
+
+    /// Returns what the program would do, with the bytes of the frame over which it ran.
+    pub fn choice(self, frame: &Frame) -> Choice<'_>
+        ensures { chosen_in result ≡ chosen_by_route frame.entry.now self }
+    {
+        match self {
+            Route::Nowhere => Choice::Sends(Action::Nothing),
+            Route::ToRules => Choice::Passes(frame.datagram()),
+            Route::ToPeer { slot, peer } => {
+                Choice::Sends(window_to_peer(slot, peer, frame.window()))
+            }
+            Route::ToClient { client } => Choice::Sends(window_to_client(client, frame.window())),
+        }
+    }
+}
+
+/// Returns where what was found leads, which isn't an answer of the rules.
+fn route_found(found: Found) -> Route
     requires { is_of_window found ≡ true }
-    ensures { (r : RelayContents) (from : Source) → option_copied window.entry ≡ window_shown r.frame
-        → sending_of result ≡ sending_of_found r from found }
+    ensures { (r : RelayContents) (from : Source)
+        → chosen_by_route r.frame result ≡ Relaying (sending_of_found r from found) }
 {
     match found {
-        Found::WindowToPeer { slot, peer } => window_to_peer(slot, peer, window),
-        Found::WindowToClient { client } => window_to_client(client, window),
-        Found::Nothing(_) | Found::Stopped | Found::Answer(_) => Action::Nothing,
+        Found::WindowToPeer { slot, peer } => Route::ToPeer { slot, peer },
+        Found::WindowToClient { client } => Route::ToClient { client },
+        Found::Nothing(_) | Found::Stopped | Found::Answer(_) => Route::Nowhere,
     }
 }
 
 /// States that where another program does the same with a datagram, the relay would do the same with that program in place.
 pub fn law_same_choices_are_same_steps()
-    ensures { (r : RelayContents) (given : Meta) (n : ℕ) (program : List Insn) → SameChoiceIsSameStep r given n program }
+    ensures { (r : RelayContents) (given : Meta) (n : ℕ) (program : List Insn)
+        → SameChoiceIsSameStep r given n program }
 {}
 
 impl Relay {
@@ -57,7 +91,7 @@ impl Relay {
     ghost use Rattle.relay.specs.ByPrograms.{is_there};
     ghost use Rattle.relay.specs.Choices.{chosen_of, with_program};
     ghost use Rattle.relay.specs.Found.{HasRun, held_for, run_at};
-    ghost use Rattle.relay.specs.Lent.{chosen_in};
+    ghost use Rattle.relay.specs.Lent.{chosen_by_route};
 
     /// Returns whether a source is served.
     fn serves(&self, from: &Source) -> bool
@@ -105,39 +139,32 @@ impl Relay {
         run_over(program, frame, helpers, &context, n)
     }
 
-    /// Returns what another program of the side of a datagram would do with it in place of the one that runs, with the same
-    /// look-ups and the same context. The datagram is the first `n` bytes of the frame's room. The relay stays as it is.
+    /// Returns where what another program of the side of a datagram would do with it leads, in place of the one that runs, with the
+    /// same look-ups and the same context. The datagram is the first `n` bytes of the frame's room. The relay stays as it is.
     /// See docs/DECISIONS.md, "A shadow runs before the step".
-    pub fn choice_of<'f>(
-        &self,
-        program: &Verified,
-        frame: &'f mut Frame,
-        meta: &Meta,
-        n: usize,
-    ) -> Choice<'f>
+    pub fn route_of(&self, program: &Verified, frame: &mut Frame, meta: &Meta, n: usize) -> Route
         requires { n ≤ MAX_DATAGRAM }
-        ensures { chosen_in result
+        ensures { chosen_by_route frame.new result
             ≡ chosen_of (with_program self.now meta.entry.now.from program.now) meta.entry.now (take n (room_of frame.old)) }
     {
         if !self.serves(&meta.from) {
-            return Choice::Sends(Action::Nothing);
+            return Route::Nowhere;
         }
         self.law_rows_are_well_formed();
         let helpers = self.helpers_for(meta);
         let outcome = self.run_beside(program, &helpers, frame, meta, n);
-        let frame = &*frame;
         match outcome.verdict {
             PASSES => match meta.from {
-                Source::Client(_) => Choice::Passes(frame.datagram()),
-                Source::Peer { .. } => Choice::Sends(Action::Nothing),
+                Source::Client(_) => Route::ToRules,
+                Source::Peer { .. } => Route::Nowhere,
             },
             SENDS => {
                 let (live, to) = (&helpers.live, outcome.destination);
                 let confinement = self.confinement();
                 let found = window_found(&meta.from, live, to, confinement, true, &mut Uncounted);
-                Choice::Sends(window_sent(found, frame.window()))
+                route_found(found)
             }
-            _ => Choice::Sends(Action::Nothing),
+            _ => Route::Nowhere,
         }
     }
 }

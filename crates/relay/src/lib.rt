@@ -19,7 +19,7 @@ mod shipped;
 mod step;
 
 pub use amplification::law_no_program_amplifies;
-pub use choosing::{Choice, law_same_choices_are_same_steps};
+pub use choosing::{Choice, Route, law_same_choices_are_same_steps};
 pub use confining::law_confined_programs_send_what_is_permitted;
 pub use error::RelayError;
 pub use events::{Action, Meta, Source};

@@ -78,7 +78,7 @@ pub(crate) fn is_served(from: &Source, tables: &Tables) -> bool
 }
 
 impl Relay {
-    ghost use Rattle.std.specs.Prelude.{◌≡◌, ◌≤◌, ◌↔◌, IsOk, IsTrue, is_some, IfOk, IfErr, OnOk, OnErr, length, true, Some, None, unwrap_or, ◌+◌};
+    ghost use Rattle.std.specs.Prelude.{◌≡◌, ◌≤◌, ◌↔◌, IsOk, IsTrue, is_some, IfOk, IfErr, OnOk, OnErr, length, option_copied, true, Some, None, unwrap_or, ◌+◌};
     ghost use Rattle.std.specs.Borrow.{sem};
     ghost use Rattle.control.specs.Configs.{fault, are_users, is_secret};
     ghost use Rattle.credentials.specs.Texts.{is_nonce};
@@ -92,9 +92,11 @@ impl Relay {
     ghost use Rattle.relay.specs.Errors.{IsFault};
     ghost use Rattle.machine.specs.Contents.{datagram_of};
     ghost use Rattle.rules.specs.Answers.{sending_of_answer, LiesInRoom};
-    ghost use Rattle.relay.specs.Found.{disposition_of_found, disposition_of_passing, sending_of_found, reply_of_passing, HasRoomFor};
+    ghost use Rattle.relay.specs.Choices.{chosen_of};
+    ghost use Rattle.relay.specs.Found.{chosen_of_found, disposition_of_found, disposition_of_passing, sending_of_found, reply_of_passing, HasRoomFor};
     ghost use Rattle.relay.specs.EventRuns.{run_of_datagram, verdict_of_datagram};
     ghost use Rattle.relay.specs.Grounds.{grounds_of};
+    ghost use Rattle.relay.specs.Lent.{chosen_by_step};
     ghost use Rattle.machine.specs.Tracing.{EndsWith, Reports};
     ghost use Rattle.relay.specs.Relays.{state_of, datagram_at};
     ghost use Rattle.relay.specs.Shipped.{AreShipped};
@@ -343,6 +345,8 @@ impl Relay {
         ensures answer { sending_of result.action ≡ (outcome_of self.old meta n).answer }
         ensures disposition { result.disposition ≡ disposition_of_step self.old meta n }
         ensures verdict { result.verdict ≡ verdict_of_datagram self.old meta (datagram_at self.old n) }
+        ensures choice { chosen_by_step (option_copied result.passed) (sending_of result.action)
+            ≡ chosen_of self.old meta (datagram_at self.old n) }
         ensures rules { AreShipped self.old.programs → outcome_of self.old meta n ≡ ruled_outcome_of self.old meta n }
         ensures harmless { IsHarmless self.old.programs self.old.config (state_of self.old) meta (datagram_at self.old n)
             (sending_of result.action) }
@@ -362,6 +366,8 @@ impl Relay {
         ensures answer { sending_of result.action ≡ sending_of_found self.now from.now decided.found }
         ensures disposition { result.disposition ≡ disposition_of_found self.now from.now decided.found }
         ensures verdict { result.verdict ≡ decided.verdict }
+        ensures choice { chosen_by_step (option_copied result.passed) (sending_of result.action)
+            ≡ chosen_of_found self.now from.now decided.found }
     {
         let Decided { found, verdict } = decided;
         match found {
@@ -378,6 +384,7 @@ impl Relay {
                     action: answer.action(client, self.frame.datagram(), &self.reply),
                     disposition: answer.disposition(),
                     verdict,
+                    passed: Some(self.frame.datagram()),
                 },
                 Source::Peer { .. } => discarded(Discard::ByProgram, verdict),
             },
@@ -395,6 +402,8 @@ impl Relay {
         ensures disposition { disposition_of_found self.new meta.entry.now.from result.found
             ≡ disposition_of_step self.old meta.entry.now n }
         ensures verdict { result.verdict ≡ verdict_of_datagram self.old meta.entry.now (datagram_at self.old n) }
+        ensures choice { chosen_of_found self.new meta.entry.now.from result.found
+            ≡ chosen_of self.old meta.entry.now (datagram_at self.old n) }
         ensures room { HasRoomFor result.found self.new.reply }
     {
         self.law_shipped_are_unconfined(meta, n);
@@ -414,6 +423,8 @@ impl Relay {
             ≡ disposition_of_step (asking asks self.old) meta.entry.now n }
         ensures verdict { result.verdict
             ≡ verdict_of_datagram (asking asks self.old) meta.entry.now (datagram_at self.old n) }
+        ensures choice { chosen_of_found self.new meta.entry.now.from result.found
+            ≡ chosen_of (asking asks self.old) meta.entry.now (datagram_at self.old n) }
         ensures room { HasRoomFor result.found self.new.reply }
         ensures keys { C.count keys.new ≤ C.count keys.old + keys_of_step self.old.programs.confinement }
     {

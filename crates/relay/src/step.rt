@@ -6,6 +6,7 @@ ghost use Rattle.relay.specs.ByPrograms.{relayed_where_sent};
 ghost use Rattle.relay.specs.Found.{stopped_where_shown};
 ghost use Rattle.rules.specs.declared.disposition.Disposition.TheVariants.{Discarded};
 
+use crate::choosing::Choice;
 use events::Action;
 use rules::{Discard, Disposition};
 
@@ -18,6 +19,24 @@ pub struct Step<'a> {
     pub disposition: Disposition,
     /// The verdict of the program that ran over the datagram; `None` where its source isn't served, so that none ran.
     pub verdict: Option<u64>,
+    /// The bytes that the rules got, where the program passed a client's datagram on.
+    pub passed: Option<&'a [u8]>,
+}
+
+impl<'a> Step<'a> {
+    ghost use Rattle.std.specs.Prelude.{◌≡◌, option_copied};
+    ghost use Rattle.events.specs.Actions.{sending_of};
+    ghost use Rattle.relay.specs.Lent.{chosen_by_step, chosen_in};
+
+    /// Returns what the program did with the datagram.
+    pub fn choice(&self) -> Choice<'a>
+        ensures { chosen_in result ≡ chosen_by_step (option_copied self.now.passed) (sending_of self.now.action) }
+    {
+        match self.passed {
+            Some(bytes) => Choice::Passes(bytes),
+            None => Choice::Sends(self.action),
+        }
+    }
 }
 
 /// Returns the step of a program that sends this.
@@ -26,6 +45,7 @@ pub(crate) fn relayed(action: Action<'_>, verdict: Option<u64>) -> Step<'_>
     ensures action { sending_of result.action ≡ sending_of action.entry }
     ensures disposition { result.disposition ≡ relayed_where_sent (sending_of action.entry) }
     ensures verdict { result.verdict ≡ verdict }
+    ensures passed { option_copied result.passed ≡ None }
 {
     let disposition = match action {
         Action::Nothing => Disposition::Discarded(Discard::ByProgram),
@@ -35,6 +55,7 @@ pub(crate) fn relayed(action: Action<'_>, verdict: Option<u64>) -> Step<'_>
         action,
         disposition,
         verdict,
+        passed: None,
     }
 }
 
@@ -43,11 +64,13 @@ pub(crate) fn discarded<'a>(reason: Discard, verdict: Option<u64>) -> Step<'a>
     ensures action { sending_of result.action ≡ None }
     ensures disposition { result.disposition ≡ Discarded reason }
     ensures verdict { result.verdict ≡ verdict }
+    ensures passed { option_copied result.passed ≡ None }
 {
     Step {
         action: Action::Nothing,
         disposition: Disposition::Discarded(reason),
         verdict,
+        passed: None,
     }
 }
 
@@ -56,6 +79,7 @@ pub(crate) fn stopped<'a>(window: Option<&[u8]>, verdict: Option<u64>) -> Step<'
     ensures action { sending_of result.action ≡ None }
     ensures disposition { result.disposition ≡ stopped_where_shown (option_copied window.entry) }
     ensures verdict { result.verdict ≡ verdict }
+    ensures passed { option_copied result.passed ≡ None }
 {
     match window {
         Some(_) => discarded(Discard::Confined, verdict),

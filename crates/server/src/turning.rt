@@ -181,9 +181,10 @@ pub(crate) fn take<L: Link, R: Recorder>(
     let Some(arrived) = receive(relay.area(), link, recorder, arrival)? else {
         return Ok(None);
     };
-    recorder.look(relay, &arrived.meta, arrived.n);
+    recorder.before_step(relay, &arrived.meta, arrived.n);
     let step = relay.step(arrived.meta, arrived.n);
     let outcome = answer(link, filter, &step.action, step.disposition);
+    recorder.after_step(&arrived.meta.from, &step);
     Ok(Some(Served {
         from: arrived.meta.from,
         kind: arrived.kind,

@@ -1,17 +1,19 @@
 //! A program that runs beside that of a side of a relay.
 
-ghost use Rattle.std.specs.Prelude.{◌≡◌, ◌≤◌, length, take, IfOk};
+ghost use Rattle.std.specs.Prelude.{◌≡◌, ◌≤◌, ℕ, length, take, IfOk};
+ghost use Rattle.events.specs.declared.meta.Meta.{Meta};
 ghost use Rattle.machine.specs.Contents.{room_of};
 ghost use Rattle.semantics.specs.declared.limits.TheConstants.{MAX_DATAGRAM};
 ghost use Rattle.relay.specs.Choices.{chosen_of, with_program};
-ghost use Rattle.relay.specs.Relays.{datagram_at};
+ghost use Rattle.relay.specs.Lent.{chosen_by_route, chosen_in};
+ghost use Rattle.relay.specs.Relays.{RelayContents, datagram_at};
 ghost use Rattle.shadow.specs.Comparisons.{compared, WouldStepSame};
 
 use crate::comparing::{Comparison, compared};
 use events::Meta;
 use loader::Loaded;
 use machine::Frame;
-use relay::{Relay, law_same_choices_are_same_steps};
+use relay::{Choice, Relay, Route, law_same_choices_are_same_steps};
 use semantics::MAX_DATAGRAM;
 use std::alloc::{AllocError, Global};
 
@@ -19,10 +21,9 @@ use std::alloc::{AllocError, Global};
 #[derive(Drop)]
 pub struct Shadow {
     program: Loaded,
-    /// What the relay's program runs over.
     frame: Frame,
-    /// What the shadow runs over.
-    own_frame: Frame,
+    /// Where what it would do with the datagram in the frame leads.
+    route: Route,
 }
 
 /// Copies the first `n` bytes of a relay's room to a frame's room.
@@ -46,7 +47,7 @@ impl Shadow {
         Ok(Shadow {
             program,
             frame: Frame::new(alloc)?,
-            own_frame: Frame::new(alloc)?,
+            route: Route::Nowhere,
         })
     }
 
@@ -57,22 +58,30 @@ impl Shadow {
         self.program = program;
     }
 
-    /// Compares what the shadow would do with a datagram, the first `n` bytes of the relay's room, with what the relay's program
-    /// of its side does with it, in the relay's state. The relay stays as it is. Where both do the same, the step of the relay
-    /// would be the same with the shadow in place of its program.
-    pub fn compare_datagram(&mut self, relay: &Relay, meta: &Meta, n: usize) -> Comparison
+    /// Finds what the shadow would do with a datagram, the first `n` bytes of the relay's room, in the relay's state, in place of the
+    /// program of its side. The relay stays as it is.
+    pub fn choose(&mut self, relay: &Relay, meta: &Meta, n: usize)
         requires { n ≤ MAX_DATAGRAM }
-        ensures compared { result ≡ compared (chosen_of relay.now meta.entry.now (datagram_at relay.now n))
-            (chosen_of (with_program relay.now meta.entry.now.from self.old.program) meta.entry.now (datagram_at relay.now n)) }
-        ensures same { WouldStepSame relay.now meta.entry.now n self.old.program result }
+        ensures chosen { chosen_by_route self.new.frame self.new.route
+            ≡ chosen_of (with_program relay.now meta.entry.now.from self.old.program) meta.entry.now (datagram_at relay.now n) }
         ensures rest { self.new.program ≡ self.old.program }
     {
         copy_to(&mut self.frame, relay.room(), n);
-        copy_to(&mut self.own_frame, relay.room(), n);
+        self.route = relay.route_of(self.program.program(), &mut self.frame, meta, n);
+    }
+
+    /// Compares what the shadow would do with the datagram that it saw last with what the program has done with it. Where that is
+    /// what the relay's program did in the state in which the shadow was asked, and both do the same, the relay would have made the
+    /// same step with the shadow in place of its program.
+    pub fn compare_with(&self, done: Choice<'_>) -> Comparison
+        ensures compared { result ≡ compared (chosen_in done.entry) (chosen_by_route self.now.frame self.now.route) }
+        ensures same { (r : RelayContents) (given : Meta) (n : ℕ)
+            → chosen_in done.entry ≡ chosen_of r given (datagram_at r n)
+            → chosen_by_route self.now.frame self.now.route
+            ≡ chosen_of (with_program r given.from self.now.program) given (datagram_at r n)
+            → WouldStepSame r given n self.now.program result }
+    {
         law_same_choices_are_same_steps();
-        let program = relay.program_of(&meta.from);
-        let done = relay.choice_of(program, &mut self.frame, meta, n);
-        let shadow = self.program.program();
-        compared(done, relay.choice_of(shadow, &mut self.own_frame, meta, n))
+        compared(done, self.route.choice(&self.frame))
     }
 }

@@ -6,10 +6,10 @@ ghost use Rattle.semantics.specs.declared.limits.TheConstants.{MAX_DATAGRAM};
 use crate::comparing::Comparison;
 use crate::counts::ShadowCounts;
 use crate::shadow::Shadow;
-use events::Meta;
+use events::{Meta, Source};
 use loader::Loaded;
 use machine::Side;
-use relay::{Relay, side_of};
+use relay::{Choice, Relay, side_of};
 use semantics::MAX_DATAGRAM;
 use std::alloc::{AllocError, Global};
 
@@ -100,27 +100,36 @@ impl Shadows {
         shadow.as_ref().map(|_| counts)
     }
 
-    /// Compares what the shadow of the side of a datagram, the first `n` bytes of a relay's room, would do with it, if there is
-    /// one, with what the relay's program does, and counts it. The relay stays as it is.
+    /// Returns the shadow of the side of a source, if it has one, and its counts.
     #[inline(always)]
-    pub fn compare_datagram(
-        &mut self,
-        relay: &Relay,
-        meta: &Meta,
-        n: usize,
-    ) -> Option<(Side, Comparison)>
-        requires { n ≤ MAX_DATAGRAM }
-    {
-        let side = side_of(&meta.from);
-        let SideShadow { shadow, counts } = match side {
+    fn of(&mut self, from: &Source) -> &mut SideShadow {
+        match side_of(from) {
             Side::Client => &mut self.client,
             Side::Peer => &mut self.peer,
-        };
+        }
+    }
+
+    /// Lets the shadow of the side of a datagram, the first `n` bytes of a relay's room, choose what it would do with it, if there is
+    /// one. The relay stays as it is.
+    #[inline(always)]
+    pub fn choose(&mut self, relay: &Relay, meta: &Meta, n: usize)
+        requires { n ≤ MAX_DATAGRAM }
+    {
+        if let Some(shadow) = &mut self.of(&meta.from).shadow {
+            shadow.choose(relay, meta, n);
+        }
+    }
+
+    /// Compares what the shadow of the side of the last datagram would do with it, if there is one, with what the program has done, and
+    /// counts it.
+    #[inline(always)]
+    pub fn compare_with(&mut self, from: &Source, done: Choice<'_>) -> Option<(Side, Comparison)> {
+        let SideShadow { shadow, counts } = self.of(from);
         match shadow {
             Some(shadow) => {
-                let comparison = shadow.compare_datagram(relay, meta, n);
+                let comparison = shadow.compare_with(done);
                 counts.count(comparison);
-                Some((side, comparison))
+                Some((side_of(from), comparison))
             }
             None => None,
         }

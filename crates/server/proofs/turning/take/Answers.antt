@@ -17,5 +17,5 @@ returns g c =
     let Received : Option (List Event) → Result (Option Arrived) LinkFault → Type 0 = λ latter came. IsReceived c.args.arrival c.receive.new.room (g.L.Link.calls c.args.link.now) (g.L.Link.calls c.receive.new.link) (g.R.Recorder.events c.args.recorder.now) latter came in
     takes c.args.filter.now c.args.arrival c.args.relay.now c.receive.new.room had c.receive.ensures.room c.in-Some.arrived
     c.step.follows.lender-at-none (sending_of c.step.result.action) c.step.result.disposition _ (g.L.Link.calls c.receive.new.link) _ _ _ c.answer-outcome.result c.step.result.verdict _
-    (subst (λ latter. Received latter (Ok (Some c.in-Some.arrived))) (sym c.look.ensures) (subst (Received (g.R.Recorder.events c.receive.new.recorder)) is c.receive.ensures.received)) c.step.follows.holds-at-none c.step.ensures.answer c.step.ensures.disposition c.answer-outcome.ensures c.step.ensures.verdict refl
+    (subst (λ latter. Received latter (Ok (Some c.in-Some.arrived))) (sym (c.after_step.ensures ∙ c.before_step.ensures)) (subst (Received (g.R.Recorder.events c.receive.new.recorder)) is c.receive.ensures.received)) c.step.follows.holds-at-none c.step.ensures.answer c.step.ensures.disposition c.answer-outcome.ensures c.step.ensures.verdict refl
     c.step.ensures.rules c.step.ensures.harmless

@@ -1,11 +1,13 @@
 use Rattle.std.proofs.Common.{◌≡◌, ◌+◌, ◌≤◌, length, rules, refl, sym, ap, subst, ◌∙◌}
+use Rattle.machine.specs.Contents.{datagram_of}
 use Rattle.tables.specs.Rows.{rows_at}
 use Rattle.tables.specs.laws.WellFormed.{rows_at-well_formed}
 use Rattle.events.specs.declared.meta.Source.{Source}
 use Rattle.programs.specs.Runs.{planned_sending}
 use Rattle.relay.specs.ByPrograms.{let_through}
+use Rattle.relay.specs.Choices.{Passing, Relaying, chosen_at, chosen_of}
 use Rattle.relay.specs.EventRuns.{verdict_of_datagram}
-use Rattle.relay.specs.Found.{asked, reply_of_passing, run_at, sending_of_found, disposition_of_found, window_shown, HasRun}
+use Rattle.relay.specs.Found.{asked, chosen_of_found, reply_of_passing, run_at, sending_of_found, disposition_of_found, window_shown, HasRun}
 use Rattle.relay.specs.Relays.{RelayContents, datagram_at}
 use Rattle.relay.specs.KeysCompared.{keys_of_step}
 use Rattle.relay.specs.Steps.{HasStepped, outcome_of, disposition_of_step}
@@ -14,6 +16,7 @@ use Rattle.relay.specs.Unconfined.{asking}
 use Rattle.relay.specs.contracts.relay.Relay.{the_view}
 use Rattle.relay.specs.declared.found.Found.TheVariants as found
 use Rattle.relay.proofs.Advances.{reply_at, steps, stays, answers, passes_client, passes_peer, sends, discards, done_then, does_pass_client, does_pass_peer, does_send, does_discard, verdict_is, verdict_then}
+use Rattle.relay.proofs.ChosenRuns.{chooses_no_passing, chooses_nothing, chooses_passing, chooses_sending, of_window}
 use Rattle.relay.proofs.KeyCounts.{by_asking, by_rules, slot_alone}
 use Rattle.relay.proofs.LiveSlots.{ran_at}
 use Rattle.relay.proofs.relay.Relay.advance.Goals as goal
@@ -185,6 +188,41 @@ returns-in_default-clause-verdict g c =
     (ran g c.before) (search rules)
     ∙ verdict_then (the_view c.self.inside) (asked c.args.asks c.self.inside.confinement) c.args.meta.now c.args.n c.moment_of-self-inside.result c.moment_of-self-inside.ensures
     ∙ (λ i. verdict_of_datagram (asking c.args.asks (c.self.view_is i)) c.args.meta.now (datagram_at (c.self.view_is i) c.args.n))
+
+-- ---- what the program did
+
+pub returns-in-Client-clause-choice : goal.returns-in-Client-clause-choice
+returns-in-Client-clause-choice g c =
+    (λ i. chosen_of_found c.pass_on.new.self (c.in-Client.is i) (found.Answer c.pass_on.result))
+    ∙ ap (λ (r : RelayContents). Passing (datagram_of r.frame)) c.pass_on.ensures.rest
+    ∙ sym (chooses_passing (asking c.args.asks (the_view c.self.inside)) c.args.meta.now c.args.n c.moment_of-self-inside.result c.run_over-outcome.result (shown g c.before.before.before.before.before)
+    (ran g c.before.before.before.before.before) (search rules) c.in-Client.client c.in-Client.is c.in-1.is)
+    ∙ ap (chosen_at (asking c.args.asks (the_view c.self.inside)) c.args.meta.now (datagram_at (the_view c.self.inside) c.args.n)) c.moment_of-self-inside.ensures
+    ∙ (λ i. chosen_of (asking c.args.asks (c.self.view_is i)) c.args.meta.now (datagram_at (c.self.view_is i) c.args.n))
+
+pub returns-in-Peer-clause-choice : goal.returns-in-Peer-clause-choice
+returns-in-Peer-clause-choice g c =
+    sym (chooses_no_passing (asking c.args.asks (the_view c.self.inside)) c.args.meta.now c.args.n c.moment_of-self-inside.result c.run_over-outcome.result (shown g c.before.before)
+    (ran g c.before.before) (search rules) c.in-Peer.slot c.in-Peer.addr c.in-Peer.is c.in-1.is)
+    ∙ ap (chosen_at (asking c.args.asks (the_view c.self.inside)) c.args.meta.now (datagram_at (the_view c.self.inside) c.args.n)) c.moment_of-self-inside.ensures
+    ∙ (λ i. chosen_of (asking c.args.asks (c.self.view_is i)) c.args.meta.now (datagram_at (c.self.view_is i) c.args.n))
+
+pub returns-in-2-clause-choice : goal.returns-in-2-clause-choice
+returns-in-2-clause-choice g c =
+    of_window (shown g c.before.before.before.before.before) c.args.meta.now.from c.window_found-found.result c.window_found-found.ensures.window
+    ∙ ap Relaying (c.window_found-found.ensures.sends (shown g c.before.before.before.before.before)
+    (rows_at-well_formed c.moment_of-self-inside.result c.self.inside.tables c.law_are_well_formed.ensures) (c.new-helpers.ensures ∙ c.live_for.ensures.live))
+    ∙ sym (chooses_sending (asking c.args.asks (the_view c.self.inside)) c.args.meta.now c.args.n c.moment_of-self-inside.result c.run_over-outcome.result (shown g c.before.before.before.before.before)
+    (ran g c.before.before.before.before.before) (search rules) c.in-2.is)
+    ∙ ap (chosen_at (asking c.args.asks (the_view c.self.inside)) c.args.meta.now (datagram_at (the_view c.self.inside) c.args.n)) c.moment_of-self-inside.ensures
+    ∙ (λ i. chosen_of (asking c.args.asks (c.self.view_is i)) c.args.meta.now (datagram_at (c.self.view_is i) c.args.n))
+
+pub returns-in_default-clause-choice : goal.returns-in_default-clause-choice
+returns-in_default-clause-choice g c =
+    sym (chooses_nothing (asking c.args.asks (the_view c.self.inside)) c.args.meta.now c.args.n c.moment_of-self-inside.result c.run_over-outcome.result (shown g c.before)
+    (ran g c.before) (search rules) (search rules) (search rules))
+    ∙ ap (chosen_at (asking c.args.asks (the_view c.self.inside)) c.args.meta.now (datagram_at (the_view c.self.inside) c.args.n)) c.moment_of-self-inside.ensures
+    ∙ (λ i. chosen_of (asking c.args.asks (c.self.view_is i)) c.args.meta.now (datagram_at (c.self.view_is i) c.args.n))
 
 -- ---- how many keys are compared
 

@@ -5,7 +5,7 @@ use Rattle.relay.specs.Shipped.{AreShipped}
 use Rattle.relay.specs.Steps.{HasStepped}
 use Rattle.relay.specs.Unconfined.{IsSameUnconfined}
 use Rattle.rules.specs.Systems.{SystemOutcome}
-use Rattle.relay.proofs.Asked.{same_disposition, same_outcome, same_verdict}
+use Rattle.relay.proofs.Asked.{same_choice, same_disposition, same_outcome, same_verdict}
 use Rattle.relay.proofs.relay.Relay.decide.Goals as goal
 
 -- with the shipped programs, which aren't asked for, the relay does the same unconfined
@@ -29,3 +29,7 @@ returns-clause-disposition c =
 pub returns-clause-verdict : goal.returns-clause-verdict
 returns-clause-verdict c =
     c.advance-2.ensures.verdict ∙ same_verdict (not c.advance.inside.are_shipped) c.args.self.now c.args.meta.now (datagram_at c.args.self.now c.args.n)
+
+pub returns-clause-choice : goal.returns-clause-choice
+returns-clause-choice c =
+    c.advance-2.ensures.choice ∙ same_choice (not c.advance.inside.are_shipped) c.args.self.now c.args.meta.now c.args.n (same c)

@@ -5,7 +5,7 @@ use Rattle.relay.specs.Relays.{state_of, datagram_at}
 use Rattle.rules.specs.Systems.{outcome_at, with_nonce}
 use Rattle.tables.specs.Moments.{moment_of}
 use Rattle.relay.proofs.Datagrams.{is_datagram}
-use Rattle.relay.proofs.Unconfined.{disposition_unconfined, reply_unconfined}
+use Rattle.relay.proofs.Unconfined.{choice_unconfined, disposition_unconfined, reply_unconfined}
 use Rattle.relay.proofs.relay.Relay.law_shipped_are_unconfined.Goals as goal
 
 pub returns : goal.returns
@@ -22,5 +22,8 @@ returns c = λ are.
           (datagram_at r c.args.n) formed c.law_are_bytes.ensures datagram given.from c.law_is_source.ensures);
       disposition =
           disposition_unconfined c.law_client_serves.ensures c.law_peer_serves.ensures r.programs are r.config moment given.tx r.rows
+          (datagram_at r c.args.n) formed c.law_are_bytes.ensures datagram given.from c.law_is_source.ensures;
+      choice =
+          choice_unconfined c.law_client_serves.ensures c.law_peer_serves.ensures r.programs are r.config moment given.tx r.rows
           (datagram_at r c.args.n) formed c.law_are_bytes.ensures datagram given.from c.law_is_source.ensures;
     }

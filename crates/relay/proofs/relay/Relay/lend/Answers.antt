@@ -2,7 +2,9 @@ use Rattle.std.proofs.Common.{◌≡◌, option_map, sym, ap, ◌∙◌}
 use Rattle.events.specs.Actions.{sending_of}
 use Rattle.events.specs.Events.{ToClient}
 use Rattle.relay.specs.ByPrograms.{relayed_where_sent}
-use Rattle.relay.specs.Found.{sending_of_found, disposition_of_found}
+use Rattle.relay.specs.Choices.{Relaying}
+use Rattle.relay.specs.Found.{chosen_of_found, sending_of_found, disposition_of_found}
+use Rattle.relay.specs.Lent.{chosen_by_step}
 use Rattle.relay.proofs.relay.Relay.lend.Goals as goal
 
 -- what is sent to the client
@@ -21,3 +23,9 @@ returns-in-WindowToClient-clause-disposition c =
     ∙ ap relayed_where_sent (sent c)
     ∙ (λ i. relayed_where_sent (sending_of_found c.args.self.now c.args.from.now (c.in-WindowToClient.is i)))
     ∙ (λ i. disposition_of_found c.args.self.now c.args.from.now (sym c.in-WindowToClient.is i))
+
+pub returns-in-WindowToClient-clause-choice : goal.returns-in-WindowToClient-clause-choice
+returns-in-WindowToClient-clause-choice c =
+    (λ i. chosen_by_step (c.relayed-in-WindowToClient.ensures.passed i) (c.relayed-in-WindowToClient.ensures.action i))
+    ∙ ap Relaying (sent c ∙ (λ i. sending_of_found c.args.self.now c.args.from.now (c.in-WindowToClient.is i)))
+    ∙ (λ i. chosen_of_found c.args.self.now c.args.from.now (sym c.in-WindowToClient.is i))
