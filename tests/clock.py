@@ -82,22 +82,26 @@ class Clocks:
         self.real, self.monotonic = real, monotonic
         os.pwrite(self.file.fileno(), struct.pack("<qq", real, monotonic), 0)
 
-    # a server reads its clocks after each wait, so they are set while it waits
+    # a server reads its clocks after each wait, so they are set while it waits. What is due then is done in pieces, with datagrams
+    # between them: so the wait is ended by a signal, and the server waits again once all is done
+
+    def set_waiting(self, server, real, monotonic):
+        """Sets both clocks while a server waits, and lets it do what is due then."""
+        with server.stopped():
+            self.set(real, monotonic)
+        server.becomes("S")
 
     def become(self, server, moment):
         """Lets time pass until a moment while a server waits, whatever the system's clock is set to."""
-        server.becomes("S")
-        self.set(self.real, MONOTONIC + moment - REAL)
+        self.set_waiting(server, self.real, MONOTONIC + moment - REAL)
 
     def set_real(self, server, real):
         """Sets the system's clock while a server waits."""
-        server.becomes("S")
-        self.set(real, self.monotonic)
+        self.set_waiting(server, real, self.monotonic)
 
     def pass_by(self, server, nanoseconds):
         """Sets the clock that never goes back so many nanoseconds forward while a server waits."""
-        server.becomes("S")
-        self.set(self.real, self.monotonic + nanoseconds)
+        self.set_waiting(server, self.real, self.monotonic + nanoseconds)
 
     @contextlib.contextmanager
     def serving(self, *words):
@@ -175,11 +179,8 @@ def names_that_expire(clocks):
     with Server(*options, env=clocks.environment) as server, Client(server, name, password) as own:
         yield from wanted("an allocation of the name", code_of(own.allocate()), 0)
         for seconds, codes in rows:
-            real += seconds * SECOND
-            clocks.set_real(server, real)
-            clocks.pass_by(server, SECOND)
-            real += SECOND
-            clocks.set_real(server, real)
+            real += (seconds + 1) * SECOND
+            clocks.set_waiting(server, real, clocks.monotonic + SECOND)
             untaken += seconds
             if abs(untaken) > 1:
                 said.append(f"clock set {'forward' if untaken > 0 else 'back'} by {abs(untaken)} seconds\n")
@@ -191,7 +192,8 @@ def names_that_expire(clocks):
             lines = server.printed().splitlines(True)
             yield from wanted(f"lines of the clock set by {seconds} s", [line for line in lines if line.startswith("clock")], said)
         yield from wanted("ends of the recording", server.printed().count(f"recording to {record} ended: the clock was set\n"), 1)
-        yield from wanted("refusals", server.printed().count(f'user "{name}", expired\n'), 2 * sum(other == 401 for _, (_, other) in rows))
+        refusals_of_name = 2 * sum(other == 401 for _, (_, other) in rows)
+        yield from wanted("refusals", server.awaited(f'user "{name}", expired\n', refusals_of_name), refusals_of_name)
 
 
 # ---- what is done from time to time

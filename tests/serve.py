@@ -33,7 +33,7 @@ from worst_programs import known_programs, longest_programs
 
 CLIENTS, DATAGRAMS, BATCH = 10, 200_000, 40
 # programs whose verification takes seconds, the round trips that are made meanwhile, and how long one may take, in seconds: a
-# server verifies for a quarter of a millisecond between two turns, and other processes take their time too. A machine that
+# server verifies for 150 microseconds between two turns, and other processes take their time too. A machine that
 # stops for a moment makes a round trip late once; a server that is held up makes one late at each attempt.
 SLOW = ("sums in the last register", "marks with a chain", "64 pointers, 32 states, and 4,000 jumps",
         "products that four registers share, 14 forks")

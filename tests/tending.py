@@ -4,9 +4,9 @@
 
 A client and a peer exchange data through a server that looks at each of its files, prints its counters each second, writes its metrics
 to a folder in memory, as the units do, and logs, first alone, and then beside a process that holds 16,000 UDP sockets, which the system
-lists in a table. With gcc the longest time of the processor between two receives is printed: so long no datagram is looked at. A virtual
-machine that stops for a moment is part of that time, so that a run in which it is above 250 microseconds is repeated, and the least of
-some runs is the server's own.
+lists in a table. With gcc the longest time of the processor between two receives is printed, where a wait that finds no datagram is as
+a receive: so long no datagram is looked for. A virtual machine that stops for a moment is part of that time, so that a run in which it
+is above 250 microseconds is repeated, and the least of some runs is the server's own.
 """
 
 import contextlib
@@ -57,14 +57,14 @@ def many_sockets():
 
 
 def held_up(folder, metrics, seconds):
-    """Returns the longest time of the processor between two receives, and how many round trips were lost."""
+    """Returns the longest time of the processor in which no datagram was looked for, and how many round trips were lost."""
     held = folder / "held"
     (folder / "users").write_text("ann:p\n")
     (folder / "secret").write_text("a secret of the bench\n")
     (folder / "revoked").write_text("ben\n")
     words = ["--users", folder / "users", "--secret", folder / "secret", "--revoked", folder / "revoked", "--client", shipped(folder, "client"),
              "--peer", shipped(folder, "peer"), "--stats", "1", "--metrics", metrics, "--log"]
-    environment = {**os.environ, "LD_PRELOAD": str(preloadable(folder, "held")), "HELD": str(held)}
+    environment = {**os.environ, "LD_PRELOAD": str(preloadable(folder, "held")), "HELD": str(held), "WAITS": "1"}
     lost = 0
     with Server(*map(str, words), env=environment) as server, Client(server) as client, udp_socket() as peer:
         client.allocate()

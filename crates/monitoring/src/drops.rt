@@ -31,6 +31,10 @@ pub(crate) struct Drops {
     text: Vec<u8>,
     /// How many were dropped before the server began.
     before: u64,
+    /// The counter of IPv4 when it was last looked at, if the system said.
+    ipv4: Option<u64>,
+    /// That of IPv6.
+    ipv6: Option<u64>,
 }
 
 /// Returns the value of the counter of UDP in the text of the counters of IPv4.
@@ -55,8 +59,14 @@ impl Drops {
     /// Where memory runs out.
     pub(crate) fn new<R: Files + AllocGlobal>(rt: &R) -> Result<Drops, AllocError> {
         let text = Vec::with_capacity(rt.alloc(), ROOM)?;
-        let mut drops = Drops { text, before: 0 };
-        drops.before = drops.count(rt).unwrap_or(0);
+        let mut drops = Drops {
+            text,
+            before: 0,
+            ipv4: None,
+            ipv6: None,
+        };
+        drops.look(rt);
+        drops.before = drops.last().unwrap_or(0);
         Ok(drops)
     }
 
@@ -76,16 +86,34 @@ impl Drops {
         str::from_utf8(&self.text).ok()
     }
 
-    /// Returns how many datagrams the system dropped since the server began: those for any UDP socket of the network namespace
-    /// whose buffer was full, of both families. `None` where the system doesn't say. It takes no memory, and its work doesn't
-    /// depend on how many sockets there are.
-    pub(crate) fn count<R: Files>(&mut self, rt: &R) -> Option<u64> {
-        let dropped = dropped_in(self.read(rt, COUNTERS)?)?;
-        let dropped6 = match self.read(rt, COUNTERS6) {
-            Some(text) => dropped6_in(text).unwrap_or(0),
-            None => 0,
+    /// Looks at the counter of IPv4. It takes no memory, and its work doesn't depend on how many sockets there are.
+    pub(crate) fn look_at_ipv4<R: Files>(&mut self, rt: &R) {
+        let dropped = match self.read(rt, COUNTERS) {
+            Some(text) => dropped_in(text),
+            None => None,
         };
-        let all = dropped.saturating_add(dropped6);
+        self.ipv4 = dropped;
+    }
+
+    /// Looks at the counter of IPv6, as [`Drops::look_at_ipv4`] does.
+    pub(crate) fn look_at_ipv6<R: Files>(&mut self, rt: &R) {
+        let dropped = match self.read(rt, COUNTERS6) {
+            Some(text) => dropped6_in(text),
+            None => None,
+        };
+        self.ipv6 = dropped;
+    }
+
+    /// Looks at both counters.
+    pub(crate) fn look<R: Files>(&mut self, rt: &R) {
+        self.look_at_ipv4(rt);
+        self.look_at_ipv6(rt);
+    }
+
+    /// Returns how many datagrams the system had dropped since the server began, when that was last looked at: those for any UDP
+    /// socket of the network namespace whose buffer was full, of both families. `None` where the system didn't say.
+    pub(crate) fn last(&self) -> Option<u64> {
+        let all = self.ipv4?.saturating_add(self.ipv6.unwrap_or(0));
         Some(all.saturating_sub(self.before))
     }
 }

@@ -62,6 +62,8 @@ pub struct MetricsFile<'a> {
     first_port: Option<u16>,
     /// The text of the new file. Its memory is taken before the server listens.
     text: Vec<u8>,
+    /// Whether all of that text is there.
+    is_whole: bool,
     timer: Timer,
     /// Whether the last write failed.
     is_failing: bool,
@@ -345,6 +347,7 @@ impl<'a> MetricsFile<'a> {
             new_path: format!(in alloc; "{path}{SUFFIX}")?,
             first_port,
             text: Vec::with_capacity(alloc, ROOM)?,
+            is_whole: false,
             timer: Timer::new(now, Duration::from_secs(PERIOD)),
             is_failing: false,
         })
@@ -360,12 +363,19 @@ impl<'a> MetricsFile<'a> {
         self.timer.is_due(now)
     }
 
-    /// Writes metrics to a new file, which then takes the name of the file: so a reader finds either the old ones or the new
+    /// Makes the text of metrics.
+    pub(crate) fn make(&mut self, metrics: &Metrics<'_>) {
+        self.text.clear();
+        self.is_whole = metrics.write(&mut self.text).is_ok();
+    }
+
+    /// Writes the text to a new file, which then takes the name of the file: so a reader finds either the old metrics or the new
     /// ones, whole. What is at the new file's path is removed before, since to open a pipe may take forever.
     /// See docs/DECISIONS.md, "Metrics are a file".
-    fn replace<R: Files>(&mut self, rt: &R, metrics: &Metrics<'_>) -> io::Result<()> {
-        self.text.clear();
-        metrics.write(&mut self.text)?;
+    fn replace<R: Files>(&mut self, rt: &R) -> io::Result<()> {
+        if !self.is_whole {
+            return Err(io::Error::from(io::ErrorKind::OutOfMemory));
+        }
         let _ = fs::remove_file(rt, self.new_path.as_str());
         let mut file = fs::File::create_new(rt, self.new_path.as_str())?;
         file.write_all(&self.text)?;
@@ -376,17 +386,17 @@ impl<'a> MetricsFile<'a> {
         renamed
     }
 
-    /// Writes the first metrics.
+    /// Writes the first metrics, whose text is made.
     ///
     /// # Errors
     /// Where they can't be written.
-    pub(crate) fn begin<R: Files>(&mut self, rt: &R, metrics: &Metrics<'_>) -> io::Result<()> {
-        self.replace(rt, metrics)
+    pub(crate) fn begin<R: Files>(&mut self, rt: &R) -> io::Result<()> {
+        self.replace(rt)
     }
 
-    /// Writes metrics. A failure is reported, once until a write succeeds again.
-    pub(crate) fn write<R: Files, E: Write>(&mut self, rt: &R, err: &mut E, metrics: &Metrics<'_>) {
-        let has_failed = self.replace(rt, metrics).is_err();
+    /// Writes the metrics whose text is made. A failure is reported, once until a write succeeds again.
+    pub(crate) fn write<R: Files, E: Write>(&mut self, rt: &R, err: &mut E) {
+        let has_failed = self.replace(rt).is_err();
         if has_failed && !self.is_failing {
             let _ = writeln!(err, "cannot write {}", self.path);
         }

@@ -3,7 +3,7 @@
 use crate::counters::{CounterLine, Faults};
 use crate::drops::Drops;
 use crate::metrics::{Metrics, MetricsFile};
-use crate::server_log::{EndReason, ServerLog};
+use crate::server_log::ServerLog;
 use crate::watching::side_name;
 use machine::Side;
 use server::{Counters, Timer};
@@ -33,6 +33,27 @@ pub struct Observed<'a> {
     pub moment: u64,
 }
 
+/// A report that has several pieces.
+#[derive(Clone, Copy)]
+enum Report {
+    /// The line of counters.
+    Counters,
+    Metrics,
+}
+
+/// A piece of a report that has begun, after the first one, in which it is looked at what the system dropped over IPv4.
+#[derive(Clone, Copy)]
+enum Piece {
+    /// To look at what it dropped over IPv6.
+    Dropped(Report),
+    /// To print the line of counters.
+    Counters,
+    /// To make the text of the metrics.
+    Text,
+    /// To write that text to its file.
+    File,
+}
+
 /// What a server reports of itself. Its memory is taken before the server listens.
 #[derive(Drop)]
 pub struct Reports<'a> {
@@ -46,6 +67,8 @@ pub struct Reports<'a> {
     shadows: Timer,
     metrics: Option<MetricsFile<'a>>,
     log: Option<ServerLog>,
+    /// The next piece of the report that has begun, if one has.
+    piece: Option<Piece>,
 }
 
 /// Prints how the shadows compare with their programs. A failure to print is ignored.
@@ -78,6 +101,7 @@ impl<'a> Reports<'a> {
             shadows: Timer::new(now, Duration::from_secs(SHADOWS_PERIOD)),
             metrics,
             log,
+            piece: None,
         })
     }
 
@@ -110,36 +134,37 @@ impl<'a> Reports<'a> {
         }
     }
 
-    /// Prints the line of counters, and how shadows compare. A failure to print is ignored.
-    fn print_counters<R: Files, E: Write>(&mut self, rt: &R, err: &mut E, of: Observed<'_>) {
+    /// Prints the line of counters, and how shadows compare, with what the system dropped when that was last looked at. A
+    /// failure to print is ignored.
+    fn print_counters<E: Write>(&self, err: &mut E, of: Observed<'_>) {
         let line = CounterLine {
             counters: of.counters,
-            dropped: self.drops.count(rt),
+            dropped: self.drops.last(),
         };
         let _ = writeln!(err, "{line}");
         print_shadows(err, of.shadows);
     }
 
-    /// Returns the metrics, with the label of their samples if they have one.
-    fn metrics<'b, R: Files>(
-        &mut self,
-        rt: &R,
-        of: Observed<'b>,
-        first_port: Option<u16>,
-    ) -> Metrics<'b> {
-        Metrics {
-            counters: of.counters,
-            shadows: of.shadows,
-            dropped: self.drops.count(rt),
-            slots: of.tables.slots(),
-            used: of.tables.allocation_count(of.moment),
-            first_port,
+    /// Makes the text of the metrics, if they are wanted, with what the system dropped when that was last looked at.
+    fn make_metrics(&mut self, of: Observed<'_>) {
+        let dropped = self.drops.last();
+        if let Some(file) = &mut self.metrics {
+            file.make(&Metrics {
+                counters: of.counters,
+                shadows: of.shadows,
+                dropped,
+                slots: of.tables.slots(),
+                used: of.tables.allocation_count(of.moment),
+                first_port: file.first_port(),
+            });
         }
     }
 
-    /// Returns the label of the metrics' samples, if they are wanted.
-    fn metrics_label(&self) -> Option<Option<u16>> {
-        self.metrics.as_ref().map(|file| file.first_port())
+    /// Writes the text of the metrics to their file, if they are wanted.
+    fn write_metrics<R: Files, E: Write>(&mut self, rt: &R, err: &mut E) {
+        if let Some(file) = &mut self.metrics {
+            file.write(rt, err);
+        }
     }
 
     /// Writes the first metrics, if they are wanted.
@@ -147,79 +172,99 @@ impl<'a> Reports<'a> {
     /// # Errors
     /// Where they can't be written.
     pub fn begin<R: Files>(&mut self, rt: &R, of: Observed<'_>) -> io::Result<()> {
-        let Some(label) = self.metrics_label() else {
-            return Ok(());
-        };
-        let metrics = self.metrics(rt, of, label);
+        if self.metrics.is_some() {
+            self.drops.look(rt);
+        }
+        self.make_metrics(of);
         match &mut self.metrics {
-            Some(file) => file.begin(rt, &metrics),
+            Some(file) => file.begin(rt),
             None => Ok(()),
         }
     }
 
-    /// Writes the metrics, if they are wanted.
-    fn write_metrics<R: Files, E: Write>(&mut self, rt: &R, err: &mut E, of: Observed<'_>) {
-        let Some(label) = self.metrics_label() else {
-            return;
-        };
-        let metrics = self.metrics(rt, of, label);
-        if let Some(file) = &mut self.metrics {
-            file.write(rt, err, &metrics);
+    /// Returns whether lines of the log are still to be printed.
+    pub fn has_lines(&self) -> bool {
+        match &self.log {
+            Some(log) => log.has_lines(),
+            None => false,
         }
     }
 
-    /// Prints the log, if there is one; once a period the allocations that have ended too, and how many lines were left out.
-    pub fn tend_log<E: Write>(&mut self, err: &mut E, of: Observed<'_>, now: Duration) {
-        if let Some(log) = &mut self.log {
-            let is_due = log.is_due(now);
-            if is_due {
-                log.look(of.tables, of.moment, EndReason::Expired);
-            }
-            log.print(err);
-            if is_due {
-                log.begin(err);
-            }
+    /// Does one piece of what is due of the log, if there is one: prints some of its lines; once a period the allocations that
+    /// have ended are added, and then it is printed how many lines were left out. Returns whether there was a piece.
+    pub fn tend_log<E: Write>(&mut self, err: &mut E, of: Observed<'_>, now: Duration) -> bool {
+        match &mut self.log {
+            Some(log) => log.tend(err, of.tables, of.moment, now),
+            None => false,
         }
     }
 
-    /// Prints faults, counters and how shadows compare, and writes metrics, as far as they are due.
+    /// Does the first piece of what is due: prints faults or how shadows compare, or looks at what the system dropped, after
+    /// which counters are printed, or metrics are written. Returns whether something is due.
+    fn begin_report<R: Files, E: Write>(
+        &mut self,
+        rt: &R,
+        err: &mut E,
+        of: Observed<'_>,
+        now: Duration,
+    ) -> bool {
+        if self.has_faults(of.counters) && self.faults.is_due(now) {
+            self.print_faults(err, of.counters);
+        } else if let Some(stats) = &mut self.stats
+            && stats.is_due(now)
+        {
+            self.drops.look_at_ipv4(rt);
+            self.piece = Some(Piece::Dropped(Report::Counters));
+        } else if self.shadows.is_due(now) {
+            print_shadows(err, of.shadows);
+        } else if let Some(file) = &mut self.metrics
+            && file.is_due(now)
+        {
+            self.drops.look_at_ipv4(rt);
+            self.piece = Some(Piece::Dropped(Report::Metrics));
+        } else {
+            return false;
+        }
+        true
+    }
+
+    /// Does a piece of the report that has begun, or begins one that is due: prints faults, counters and how shadows compare,
+    /// and writes metrics. Returns whether there was one.
     pub fn tend<R: Files, E: Write>(
         &mut self,
         rt: &R,
         err: &mut E,
         of: Observed<'_>,
         now: Duration,
-    ) {
-        if self.has_faults(of.counters) && self.faults.is_due(now) {
-            self.print_faults(err, of.counters);
+    ) -> bool {
+        let Some(piece) = self.piece else {
+            return self.begin_report(rt, err, of, now);
+        };
+        self.piece = match piece {
+            Piece::Dropped(Report::Counters) => Some(Piece::Counters),
+            Piece::Dropped(Report::Metrics) => Some(Piece::Text),
+            Piece::Text => Some(Piece::File),
+            Piece::Counters | Piece::File => None,
+        };
+        match piece {
+            Piece::Dropped(_) => self.drops.look_at_ipv6(rt),
+            Piece::Counters => self.print_counters(err, of),
+            Piece::Text => self.make_metrics(of),
+            Piece::File => self.write_metrics(rt, err),
         }
-        if let Some(stats) = &mut self.stats
-            && stats.is_due(now)
-        {
-            self.print_counters(rt, err, of);
-        } else if self.shadows.is_due(now) {
-            print_shadows(err, of.shadows);
-        }
-        if let Some(file) = &mut self.metrics
-            && file.is_due(now)
-        {
-            self.write_metrics(rt, err, of);
-        }
-    }
-
-    /// Prints what was logged.
-    pub fn flush<E: Write>(&mut self, err: &mut E) {
-        if let Some(log) = &mut self.log {
-            log.print(err);
-        }
+        true
     }
 
     /// Prints faults and counters and writes metrics, as far as they are wanted.
     pub fn end<R: Files, E: Write>(&mut self, rt: &R, err: &mut E, of: Observed<'_>) {
         self.print_faults(err, of.counters);
-        if self.stats.is_some() {
-            self.print_counters(rt, err, of);
+        if self.stats.is_some() || self.metrics.is_some() {
+            self.drops.look(rt);
         }
-        self.write_metrics(rt, err, of);
+        if self.stats.is_some() {
+            self.print_counters(err, of);
+        }
+        self.make_metrics(of);
+        self.write_metrics(rt, err);
     }
 }

@@ -26,6 +26,9 @@ const USER_LINES: usize = 20;
 /// The most lines of other refusals.
 const STRANGER_LINES: usize = 20;
 
+/// The most lines that are printed between two turns.
+const LINES_AT_ONCE: usize = 8;
+
 /// The seconds of a period.
 const PERIOD: u64 = 1;
 
@@ -125,13 +128,17 @@ pub struct ServerLog {
     first_port: u16,
     /// For each slot the allocation that was logged and whose end wasn't.
     open: Vec<Option<Open>>,
-    /// What is still to be printed.
+    /// What was added since all was printed.
     entries: Vec<Entry>,
+    /// How many of these are printed.
+    printed: usize,
     /// How many were added in this period, those that were printed included.
     counts: Counts,
     /// How many weren't, since there were too many.
     left_out: u64,
     period: Timer,
+    /// Whether the period is over, but for the lines that are still to be printed.
+    is_over: bool,
 }
 
 /// Returns the STUN message at the start of the room for datagrams, by the length in its header.
@@ -286,9 +293,11 @@ impl ServerLog {
             first_port,
             open,
             entries: Vec::with_capacity(alloc, LINES)?,
+            printed: 0,
             counts: Counts::NONE,
             left_out: 0,
             period: Timer::new(now, Duration::from_secs(PERIOD)),
+            is_over: false,
         })
     }
 
@@ -378,26 +387,52 @@ impl ServerLog {
         self.left_out > 0 || self.open.iter().any(|place| place.is_some())
     }
 
-    /// Returns whether a new period begins.
-    pub fn is_due(&mut self, now: Duration) -> bool {
-        self.period.is_due(now)
+    /// Returns whether lines are still to be printed.
+    pub fn has_lines(&self) -> bool {
+        !self.entries.is_empty()
+    }
+
+    /// Does one piece of what is due, and returns whether there was one: prints some lines; where a period is over, ends what the
+    /// tables don't have any more, or begins the next period.
+    pub fn tend<E: Write>(
+        &mut self,
+        err: &mut E,
+        tables: &Tables,
+        moment: u64,
+        now: Duration,
+    ) -> bool {
+        if self.has_lines() {
+            self.print(err);
+        } else if self.is_over {
+            self.begin(err);
+        } else if self.period.is_due(now) {
+            self.look(tables, moment, EndReason::Expired);
+            self.is_over = true;
+        } else {
+            return false;
+        }
+        true
     }
 
     /// Begins a new period, and prints how many lines of the last one were left out. A failure to print is ignored.
-    pub fn begin<E: Write>(&mut self, err: &mut E) {
-        self.print(err);
+    fn begin<E: Write>(&mut self, err: &mut E) {
         if self.left_out > 0 {
             let _ = writeln!(err, "{} lines of the log left out", self.left_out);
         }
         self.counts = Counts::NONE;
         self.left_out = 0;
+        self.is_over = false;
     }
 
-    /// Prints what was added since the last time. A failure to print is ignored.
-    pub fn print<E: Write>(&mut self, err: &mut E) {
-        for entry in &self.entries {
+    /// Prints the next lines, as many as are printed between two turns. A failure to print is ignored.
+    fn print<E: Write>(&mut self, err: &mut E) {
+        for entry in self.entries.iter().skip(self.printed).take(LINES_AT_ONCE) {
             let _ = writeln!(err, "{entry}");
         }
-        self.entries.clear();
+        self.printed = self.printed.saturating_add(LINES_AT_ONCE);
+        if self.printed >= self.entries.len() {
+            self.entries.clear();
+            self.printed = 0;
+        }
     }
 }

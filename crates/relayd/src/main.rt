@@ -3,6 +3,7 @@
 #![tactic(auto)]
 
 mod check_command;
+mod chores;
 mod clock;
 mod comparing;
 mod confinements;

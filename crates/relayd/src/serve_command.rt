@@ -1,5 +1,6 @@
 //! The command `serve`: relays the datagrams of UDP sockets.
 
+use crate::chores::Chore;
 use crate::clock::{elapsed, moment};
 use crate::filters::peer_options;
 use crate::options::{CommandError, Relayed};
@@ -34,10 +35,16 @@ const PERIOD: u64 = 1;
 
 /// The microseconds for which programs are verified between two turns.
 /// See docs/DECISIONS.md, "Verification in slices".
-const VERIFYING: u64 = 250;
+const VERIFYING: u64 = 150;
 
 /// The most slices of a verification between two turns.
 const SLICES: usize = 10_000;
+
+/// The most sockets that are closed between two turns.
+const CLOSED: usize = 8;
+
+/// The most pieces of what is due that follow one another where no turns are between them. There are fewer.
+const PIECES: usize = 64;
 
 /// What the turns of a server go through, beside its relay.
 #[derive(Drop)]
@@ -68,11 +75,15 @@ pub(crate) struct Server<'a> {
     pub(crate) nonces: Timer,
     /// How far the system's clock is ahead, where names expire by it.
     pub(crate) clock: Option<ClockOffset>,
-    /// When the system's clock is looked at, and files are read again.
+    /// When the chores of a second begin.
     pub(crate) files: Timer,
+    /// The next one of them, if some are left.
+    pub(crate) chore: Option<Chore>,
     pub(crate) reports: Reports<'a>,
     /// Whether several datagrams had come at the endpoint that was served last.
     pub(crate) is_busy: bool,
+    /// Whether something that was due has been done since the last turns, so that more may be due.
+    pub(crate) is_tending: bool,
 }
 
 /// What a server waits with. Its memory is taken before the server listens.
@@ -113,6 +124,13 @@ fn ends_of(contents: Contents<'_>) -> (EndReason, RecordEnd) {
 }
 
 impl<'a> Server<'a> {
+    /// Replaces the nonce where that is due.
+    fn renew_due_nonce<R: Clock>(&mut self, rt: &R) {
+        if self.nonces.is_due(elapsed(rt)) {
+            self.renew_nonce();
+        }
+    }
+
     /// Replaces the nonce by one that is drawn, which is never refused.
     fn renew_nonce(&mut self) {
         let nonce = draw_nonce(&mut self.wire.rng);
@@ -197,11 +215,13 @@ impl<'a> Server<'a> {
         }
     }
 
-    /// Closes the sockets of clients whose allocations have ended.
+    /// Closes some sockets of clients whose allocations have ended. Where there may be more, that is the next chore again.
     fn close_own_sockets<R: Clock>(&mut self, rt: &R) {
         let now = moment(rt, &self.moments);
         let tables = self.relay.tables();
-        self.wire.sockets.close_others(tables, now);
+        if self.wire.sockets.close_others(tables, now, CLOSED) {
+            self.chore = Some(Chore::Sockets);
+        }
     }
 
     /// Lets names expire by the system's clock where that was set, and says by how much.
@@ -225,20 +245,19 @@ impl<'a> Server<'a> {
         }
     }
 
-    /// Looks for other programs, users, secrets and revoked users.
-    fn look_at_files<R: Files + Clock + AllocGlobal, E: Write>(&mut self, rt: &R, err: &mut E) {
-        self.sides.look(rt, err);
-        self.shadows.look(rt, err);
-        self.log_ends(rt, EndReason::Expired);
-        for index in 0..self.reread.len() {
-            let Some(file) = self.reread.get_mut(index) else {
-                return;
-            };
-            if file.look(rt, err, &mut self.relay) {
-                let (reason, end) = ends_of(file.contents());
-                self.log_ends(rt, reason);
-                self.wire.watch.recording.end(err, end);
-            }
+    /// Looks for other users, secrets or revoked users, in the file at a place.
+    fn reread_file<R: Files + Clock + AllocGlobal, E: Write>(
+        &mut self,
+        rt: &R,
+        err: &mut E,
+        index: usize,
+    ) {
+        if let Some(file) = self.reread.get_mut(index)
+            && file.look(rt, err, &mut self.relay)
+        {
+            let (reason, end) = ends_of(file.contents());
+            self.log_ends(rt, reason);
+            self.wire.watch.recording.end(err, end);
         }
     }
 
@@ -256,30 +275,60 @@ impl<'a> Server<'a> {
         }
     }
 
-    /// Writes what was recorded, and prints what was logged.
-    fn flush<E: Write>(&mut self, err: &mut E) {
-        self.wire.watch.flush(err);
-        self.reports.flush(err);
+    /// Returns whether something is left to be done before the next datagram comes.
+    fn has_work(&self) -> bool {
+        self.is_tending || self.is_replacing() || self.reports.has_lines()
     }
 
-    /// Does what is due: draws a nonce, prints the log, looks at the system's clock and for other programs and users, goes on
-    /// verifying programs, and reports.
+    /// Does the next chore, if some are left. Returns whether one was.
+    fn do_chore<R: Files + Clock + AllocGlobal, E: Write>(&mut self, rt: &R, err: &mut E) -> bool {
+        let Some(chore) = self.chore else {
+            return false;
+        };
+        self.chore = chore.next(self.reread.len());
+        match chore {
+            Chore::Clock => self.look_at_clock(rt, err),
+            Chore::Sockets => self.close_own_sockets(rt),
+            Chore::ClientProgram => self.sides.look_at_client(rt, err),
+            Chore::PeerProgram => self.sides.look_at_peer(rt, err),
+            Chore::ClientShadow => self.shadows.look_at_client(rt, err),
+            Chore::PeerShadow => self.shadows.look_at_peer(rt, err),
+            Chore::Ends => self.log_ends(rt, EndReason::Expired),
+            Chore::Reread(index) => self.reread_file(rt, err, index),
+        }
+        true
+    }
+
+    /// Does one piece of the reports that are due, if some are. Returns whether one was.
+    fn report<R: Files + Clock, E: Write>(&mut self, rt: &R, err: &mut E, now: Duration) -> bool {
+        let of = observed(&self.wire, &self.relay, moment(rt, &self.moments));
+        self.reports.tend(rt, err, of, now)
+    }
+
+    /// Does one piece of what is due, and notes whether there was one: of the log, of the chores of a second, or of the reports,
+    /// in this order. Where nothing is due it goes on verifying programs.
     /// See docs/DECISIONS.md, "What is looked at once a second".
     fn tend<R: Files + Clock + AllocGlobal, E: Write>(&mut self, rt: &R, err: &mut E) {
         let now = elapsed(rt);
-        if self.nonces.is_due(now) {
-            self.renew_nonce();
-        }
-        let of = observed(&self.wire, &self.relay, moment(rt, &self.moments));
-        self.reports.tend_log(err, of, now);
         if self.files.is_due(now) {
-            self.close_own_sockets(rt);
-            self.look_at_clock(rt, err);
-            self.look_at_files(rt, err);
+            self.chore = Some(Chore::FIRST);
         }
-        self.verify(rt, err, now);
         let of = observed(&self.wire, &self.relay, moment(rt, &self.moments));
-        self.reports.tend(rt, err, of, now);
+        let is_logging = self.reports.tend_log(err, of, now);
+        self.is_tending = is_logging || self.do_chore(rt, err) || self.report(rt, err, now);
+        if !self.is_tending {
+            self.verify(rt, err, now);
+        }
+    }
+
+    /// Does all that is due, with no turns between its pieces.
+    fn tend_whole<R: Files + Clock + AllocGlobal, E: Write>(&mut self, rt: &R, err: &mut E) {
+        for _ in 0..PIECES {
+            self.tend(rt, err);
+            if !self.is_tending {
+                return;
+            }
+        }
     }
 
     /// Returns the longest wait for a datagram. Without end where nothing but datagrams matters: a nonce that is due is
@@ -343,10 +392,11 @@ impl<'a> Server<'a> {
         rounds: u64,
     ) {
         for _ in 0..rounds {
+            self.renew_due_nonce(rt);
             self.round(rt);
-            self.tend(rt, err);
+            self.tend_whole(rt, err);
         }
-        self.flush(err);
+        self.wire.watch.flush(err);
         let of = observed(&self.wire, &self.relay, moment(rt, &self.moments));
         self.reports.end(rt, err, of);
     }
@@ -391,21 +441,22 @@ impl<'a> Server<'a> {
         mut waiting: Waiting,
     ) -> Result<(), CommandError<'static>> {
         for _ in 0..u64::MAX {
-            let is_idle = !waiting.schedule.has_ready() && !self.is_replacing();
+            let is_idle = !waiting.schedule.has_ready() && !self.has_work();
             let wait = if is_idle {
                 self.longest_wait()
             } else {
                 Some(Duration::ZERO)
             };
-            self.flush(err);
+            self.wire.watch.flush(err);
             waiting.wait(wait)?;
-            self.tend(rt, err);
+            self.renew_due_nonce(rt);
             let mut endpoints = ServedEndpoints {
                 server: &mut *self,
                 rt,
             };
             serve_round(&mut endpoints, &waiting.reports, &mut waiting.schedule);
             self.wire.sockets.connect_wanted(rt, &waiting.poll);
+            self.tend(rt, err);
         }
         Ok(())
     }

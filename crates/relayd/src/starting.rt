@@ -346,8 +346,10 @@ fn server_of<'a, R: Clock + AllocGlobal>(
         nonces: Timer::new(now, Duration::from_secs(server_options.nonce_lifetime)),
         clock: options.secret_file.is_some().then(ClockOffset::new),
         files: Timer::new(now, Duration::from_secs(FILES_PERIOD)),
+        chore: None,
         reports: parts.reports,
         is_busy: false,
+        is_tending: false,
     })
 }
 

@@ -254,9 +254,13 @@ impl<'a> Sides<'a> {
         self.client.is_busy() || self.peer.is_busy()
     }
 
-    /// Begins to load the programs of the files that have changed.
-    pub fn look<R: Files + AllocGlobal, E: Write>(&mut self, rt: &R, err: &mut E) {
+    /// Begins to load the program for clients' datagrams, if its file has changed.
+    pub fn look_at_client<R: Files + AllocGlobal, E: Write>(&mut self, rt: &R, err: &mut E) {
         self.client.look(rt, err);
+    }
+
+    /// Begins to load the program for peers' datagrams, if its file has changed.
+    pub fn look_at_peer<R: Files + AllocGlobal, E: Write>(&mut self, rt: &R, err: &mut E) {
         self.peer.look(rt, err);
     }
 

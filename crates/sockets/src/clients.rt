@@ -114,14 +114,16 @@ impl ClientSockets {
         }
     }
 
-    /// Closes the socket of the client of a slot, if it has one and nothing waits there.
-    pub(crate) fn close_idle(&mut self, slot: usize) {
+    /// Closes the socket of the client of a slot, if it has one and nothing waits there. Returns whether it did.
+    pub(crate) fn close_idle(&mut self, slot: usize) -> bool {
         if let Some(of_slot) = self.by_slot.get_mut(slot)
             && let ClientSocket::Own { socket, .. } = of_slot
             && is_idle(socket)
         {
             *of_slot = ClientSocket::Shared;
+            return true;
         }
+        false
     }
 
     /// Gives each client that is to have a socket one, which a poll reports under the token of its slot, that of slot 0 being

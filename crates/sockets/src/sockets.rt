@@ -352,17 +352,25 @@ impl Sockets {
         clients.connect_wanted(rt, client, poll.registry(), FIRST_CLIENT);
     }
 
-    /// Closes the sockets of clients that have no allocation at their slot any more, and at which nothing waits.
-    pub fn close_others(&mut self, tables: &Tables, now: u64) {
+    /// Closes at most so many sockets of clients that have no allocation at their slot any more, and at which nothing waits.
+    /// Returns whether as many are closed, so that there may be more.
+    pub fn close_others(&mut self, tables: &Tables, now: u64, most: usize) -> bool {
+        let mut closed = 0;
         for slot in 0..self.endpoints.slots.len() {
+            if closed >= most {
+                return true;
+            }
             let Some(client) = self.endpoints.clients.client_of(slot) else {
                 continue;
             };
             let holder = tables.allocation_at(slot, now);
-            if !holder.is_some_and(|allocation| allocation.client == client) {
-                self.endpoints.clients.close_idle(slot);
+            if !holder.is_some_and(|allocation| allocation.client == client)
+                && self.endpoints.clients.close_idle(slot)
+            {
+                closed += 1;
             }
         }
+        closed >= most
     }
 
     /// Receives ahead at an endpoint.
