@@ -24,7 +24,7 @@ use crate::explanations::{explain, graph};
 use crate::options_file::further_words;
 use crate::replay_command::replay;
 use crate::reports::{report_file, verify_file};
-use crate::serve_command::serve;
+pub use crate::serve_command::serve;
 use crate::trace_command::{Traced, trace};
 use crate::writing::{NewFiles, assemble_file, reorder_file};
 use clap::ArgMatches;

@@ -568,10 +568,12 @@ fn serve_sockets<
 
 /// Serves clients and peers, prints the line of the first fault to `err`, and returns the exit status.
 /// See docs/DECISIONS.md, "`serve` is a command".
-pub(crate) fn serve<
-    R: Files<File = File> + Print + Net + Clock + RandomSource + AllocGlobal,
-    E: Write,
->(rt: &R, err: &mut E, server_options: &ServerOptions<'_>, options: &Options<'_>) -> u8 {
+pub fn serve<R: Files<File = File> + Print + Net + Clock + RandomSource + AllocGlobal, E: Write>(
+    rt: &R,
+    err: &mut E,
+    server_options: &ServerOptions<'_>,
+    options: &Options<'_>,
+) -> u8 {
     match serve_sockets(rt, err, server_options, options) {
         Ok(()) => 0,
         Err(fault) => {
