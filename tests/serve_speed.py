@@ -60,8 +60,8 @@ class Subject:
 class Process:
     """A process that prints its port."""
 
-    def __init__(self, *words):
-        self.process = subprocess.Popen(words, stdout=subprocess.PIPE, text=True)
+    def __init__(self, *words, **options):
+        self.process = subprocess.Popen(words, stdout=subprocess.PIPE, text=True, **options)
         self.port = int(self.process.stdout.readline())
 
     def __enter__(self):

@@ -6,7 +6,8 @@ A client and a peer exchange data through a server that looks at each of its fil
 to a folder in memory, as the units do, and logs, first alone, and then beside a process that holds 16,000 UDP sockets, which the system
 lists in a table. With gcc the longest time of the processor between two receives is printed, where a wait that finds no datagram is as
 a receive: so long no datagram is looked for. A virtual machine that stops for a moment is part of that time, so that a run in which it
-is above 250 microseconds is repeated, and the least of some runs is the server's own.
+is above 250 microseconds is repeated, and the least of some runs is the server's own. What a forwarder in C shows, which does nothing
+but forward, is printed first: it is the machine's.
 """
 
 import contextlib
@@ -16,12 +17,14 @@ import resource
 import shutil
 import socket
 import struct
+import subprocess
 import sys
 import tempfile
 import time
 
 from lib.program import build, finish, preloadable, shipped
-from lib.server import Client, Server, address_of, round_trip, udp_socket
+from lib.server import Client, Server, address_of, channel_data, round_trip, udp_socket
+from serve_speed import SOURCE, Process
 
 # longer than the fifteen seconds after which metrics are written
 SECONDS = 20
@@ -56,15 +59,38 @@ def many_sockets():
         os.waitpid(child, 0)
 
 
+def watched(folder):
+    """Returns the environment of a process whose longest time between receives is written to a file, and that file."""
+    held = folder / "held"
+    return {**os.environ, "LD_PRELOAD": str(preloadable(folder, "held")), "HELD": str(held), "WAITS": "1"}, held
+
+
+def longest_in(held):
+    """Returns the seconds in that file."""
+    return int(held.read_text(encoding="ascii")) / 1e9
+
+
+def forwarder_held_up(folder, seconds):
+    """Returns the longest time of the processor between two receives of a forwarder in C."""
+    tool, (environment, held) = folder / "serve_speed", watched(folder)
+    subprocess.run(["gcc", "-O2", "-o", tool, SOURCE], check=True)
+    with Process(tool, "echo") as echo, Process(tool, "forward", str(echo.port), env=environment) as forwarder, udp_socket() as client:
+        client.connect(("127.0.0.1", forwarder.port))
+        end = time.monotonic() + seconds
+        while time.monotonic() < end:
+            client.send(channel_data(b"data"))
+            client.recv(100)
+    return longest_in(held)
+
+
 def held_up(folder, metrics, seconds):
     """Returns the longest time of the processor in which no datagram was looked for, and how many round trips were lost."""
-    held = folder / "held"
+    environment, held = watched(folder)
     (folder / "users").write_text("ann:p\n")
     (folder / "secret").write_text("a secret of the bench\n")
     (folder / "revoked").write_text("ben\n")
     words = ["--users", folder / "users", "--secret", folder / "secret", "--revoked", folder / "revoked", "--client", shipped(folder, "client"),
              "--peer", shipped(folder, "peer"), "--stats", "1", "--metrics", metrics, "--log"]
-    environment = {**os.environ, "LD_PRELOAD": str(preloadable(folder, "held")), "HELD": str(held), "WAITS": "1"}
     lost = 0
     with Server(*map(str, words), env=environment) as server, Client(server) as client, udp_socket() as peer:
         client.allocate()
@@ -74,7 +100,7 @@ def held_up(folder, metrics, seconds):
             if time.monotonic() > end:
                 break
             lost += round_trip(client, peer, ("127.0.0.1", server.first_port), struct.pack(">I", count)) is None
-    return int(held.read_text(encoding="ascii")) / 1e9, lost
+    return longest_in(held), lost
 
 
 def measured(folder, metrics, title, seconds):
@@ -98,6 +124,7 @@ def main():
         sys.exit("gcc is needed")
     with tempfile.TemporaryDirectory() as name, tempfile.TemporaryDirectory(dir=MEMORY) as memory:
         folder, metrics = pathlib.Path(name), pathlib.Path(memory) / "metrics"
+        print(f"a forwarder in C: held up for {forwarder_held_up(folder, seconds) * 1e6:.0f} us of the processor at most", flush=True)
         failures = list(measured(folder, metrics, "alone", seconds))
         with many_sockets():
             failures += measured(folder, metrics, f"beside {SOCKETS:,} sockets", seconds)
