@@ -1,20 +1,17 @@
 -- Lists of rows in ascending order, as they are searched and changed.
-use Rattle.std.proofs.Common.{◌≡◌, ◌≢◌, ℕ, ◌<◌, Bool, true, false, List, filter, length, get_or, set, Result, Ok, Err, All, AllPairs, Ordering, Less, Equal, Greater, sym, refl, ap, ◌∙◌, subst, inl, inr}
-use Rattle.std.specs.Ordering.{is_lt, is_gt, is_eq, ordering_reverse}
-use Rattle.std.specs.Cmp.{IsTotalOrder, tied_itself}
-use Rattle.std.specs.List.{insert}
-use Rattle.std.specs.FinMap.{IsAntisymmetric}
-use Rattle.std.proofs.lemmas.Bool.{cases_lt, both_ways}
-use Rattle.std.proofs.lemmas.List.{get_or_default}
+use Rattle.std.proofs.Common.{◌≡◌, ◌≢◌, Bool, true, false, List, filter, get_or, AllPairs, Ordering, Less, Equal, Greater, sym, refl, ap, ◌∙◌, subst}
+use Rattle.std.specs.Ordering.{is_lt, is_gt, is_eq, eq_by_cmp, ordering_reverse}
+use Rattle.std.specs.Cmp.{IsTotalOrder, tied_itself, eq_by_cmp_equiv}
+use Rattle.std.proofs.lemmas.Bool.{both_ways}
 use Rattle.std.proofs.lemmas.List.Kept.{AllPairs-filter}
-use Rattle.tables.specs.Search.{AreAscending, IsFoundAt, IsMissingAt, IsPlace, with_row}
-use Rattle.tables.proofs.Lists.{AllPairs-set, AllPairs-insert}
+use Rattle.addresses.specs.declared.address.Addr.{Addr}
+use Rattle.addresses.specs.AddressOrder.{order_by_parts, is_same_address}
+use Rattle.addresses.specs.laws.AddressOrder.{order_by_parts-total, order_by_parts-same}
+use Rattle.tables.specs.Search.{AreAscending, put_row}
+use Rattle.tables.proofs.Searches.{AllPairs-put_row}
 
 less_differs : Less ≡ Equal → ⊥
 less_differs e = absurd (both_ways false refl (ap is_eq e))
-
-greater_differs : Greater ≡ Equal → ⊥
-greater_differs e = absurd (both_ways false refl (ap is_eq e))
 
 module _ {Row K : Type 0} {R : K → K → Ordering} (o : IsTotalOrder R) (key : Row → K) where
   abbrev pub Ascending : List Row → Type 0
@@ -46,33 +43,12 @@ module _ {Row K : Type 0} {R : K → K → Ordering} (o : IsTotalOrder R) (key :
   pub Ascending-filter : (test : Row → Bool) (rows : List Row) → Ascending rows → Ascending (filter test rows)
   Ascending-filter test rows up = AllPairs-filter (λ a b. R (key a) (key b) ≡ Less) test rows up
 
-  -- a write that keeps the key
-  pub Ascending-set : (rows : List Row) (i : ℕ) (y d : Row) → Ascending rows → i < length rows → key y ≡ key (get_or rows i d) → Ascending (set rows i y)
-  Ascending-set rows i y d up l e =
-      AllPairs-set (λ a b. R (key a) (key b) ≡ Less) rows i y l up
-      (λ k c p. subst (λ (q : K). R (key (get_or rows k c)) q ≡ Less) (sym (e ∙ ap key (get_or_default rows i d c l))) (up k i c p l))
-      (λ k c p q. subst (λ (r : K). R r (key (get_or rows k c)) ≡ Less) (sym (e ∙ ap key (get_or_default rows i d c l))) (up i k c p q))
+  -- with a row at the place of its key
+  pub Ascending-put_row : (y : Row) (rows : List Row) → Ascending rows → Ascending (put_row (against (key y)) y rows)
+  Ascending-put_row y rows up =
+      AllPairs-put_row (against (key y)) (λ a b. R (key a) (key b) ≡ Less) y rows (searchable rows (key y) up) up
+      (λ k d l. (λ less. less, λ more. IsTotalOrder.antisymm o (key y) (key (get_or rows k d)) ∙ ap ordering_reverse more))
 
-  pub Ascending-insert : (rows : List Row) (i : ℕ) (y : Row) → Ascending rows → IsMissingAt (against (key y)) rows i → Ascending (insert rows i y)
-  Ascending-insert rows i y up miss =
-      AllPairs-insert (λ a b. R (key a) (key b) ≡ Less) rows i y miss.inside up miss.below
-      (λ k d p l. IsTotalOrder.antisymm o (key y) (key (get_or rows k d)) ∙ ap ordering_reverse (miss.above k d p l))
-
-  -- ---- what a search gives
-
-  pub missing_key : (rows : List Row) (k : K) (i : ℕ) → IsMissingAt (against k) rows i → All (λ row. k ≢ key row) rows
-  missing_key rows k i miss = λ n d l s.
-      let tie : R (key (get_or rows n d)) k ≡ Equal = subst (λ (q : K). R (key (get_or rows n d)) q ≡ Equal) (sym s) (tied_itself o (key (get_or rows n d))) in
-      elim (cases_lt n i) [
-        | inl p ↦ less_differs (sym (miss.below n d p) ∙ tie)
-        | inr p ↦ greater_differs (sym (miss.above n d p l) ∙ tie)
-      ]
-
-  module _ (same : IsAntisymmetric R) where
-    -- a write or an insert at the place of the key
-    pub Ascending-put : (rows : List Row) (place : Result ℕ ℕ) (y : Row) → Ascending rows → IsPlace (against (key y)) rows place → Ascending (with_row place y rows)
-    Ascending-put rows (Ok i) y up at = Ascending-set rows i y y up at.inside (sym (same (key (get_or rows i y)) (key y) (at.equal y)))
-    Ascending-put rows (Err i) y up miss = Ascending-insert rows i y up miss
-
-    pub found_key : (rows : List Row) (k : K) (i : ℕ) (d : Row) → IsFoundAt (against k) rows i → k ≡ key (get_or rows i d)
-    found_key rows k i d at = sym (same (key (get_or rows i d)) k (at.equal d))
+-- the order of addresses by their parts finds the same address
+pub is_same-by_parts : (a b : Addr) → eq_by_cmp order_by_parts b a ≡ is_same_address a b
+is_same-by_parts a b = (eq_by_cmp_equiv order_by_parts-total).symm b a ∙ order_by_parts-same a b

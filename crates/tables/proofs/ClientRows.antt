@@ -1,32 +1,31 @@
 -- The clients of what is stored: looked up, and as slots are swept and filled.
-use Rattle.std.proofs.Common.{◌≡◌, ◌≢◌, ℕ, zero, suc, ◌+◌, ◌<◌, ◌≤◌, Bool, true, false, List, [], ◌∷◌, map, filter, find, length, get_or, set, slice_get, nat_lt, Option, Some, None, is_some, Result, Ok, Err, option_map, option_and_then, All, Ordering, Equal, sym, refl, ap, ◌∙◌, subst, inl, inr, arith, is_eq as is_equal, eqb, ◌||◌}
-use Rattle.std.specs.Cmp.{IsTotalOrder, tied_back, tied_itself}
-use Rattle.std.specs.List.{insert as insert_at, list_any}
+use Rattle.std.proofs.Common.{◌≡◌, ◌≢◌, ℕ, zero, suc, ◌<◌, ◌≤◌, Bool, true, false, List, [], ◌∷◌, map, filter, find, length, get_or, set, slice_get, nat_lt, Option, Some, None, is_some, option_map, option_and_then, All, Ordering, Equal, sym, refl, ap, ◌∙◌, subst, inl, inr, arith, is_eq, eqb, ◌||◌}
+use Rattle.std.specs.Cmp.{tied_itself}
+use Rattle.std.specs.List.{list_any}
 use Rattle.std.specs.Option.{option_flatten}
-use Rattle.std.proofs.lemmas.Bool.{eqb-true, ne_eqb, cases_Bool, cases_eq, cases_lt, cases_order, cond-true, cond-false, both_ways, false_from_ne_true}
+use Rattle.std.proofs.lemmas.Bool.{eqb-true, ne_eqb, cases_Bool, cases_eq, cond-true, cond-false, both_ways, false_from_ne_true}
 use Rattle.std.proofs.lemmas.Option.{none-some, same_Some, slice_get-map}
-use Rattle.std.proofs.lemmas.List.{map-set, length-map, get_or-map, get_or_default}
-use Rattle.std.proofs.lemmas.List.Elements.{All-cons, All-tail, All-map}
+use Rattle.std.proofs.lemmas.List.{map-set, length-map, length-set, get_or-map}
+use Rattle.std.proofs.lemmas.List.Elements.{All-cons, All-tail, All-map, All-filter, filter_passes}
 use Rattle.std.proofs.lemmas.Map.Keys.{IsDistinct-from_apart}
 use Rattle.std.proofs.lemmas.Map.Steps.{length-le_from_distinct_below}
-use Rattle.std.proofs.lemmas.List.Edits.{get_or-insert_below, get_or-insert_at, get_or-insert_above, length-insert}
 use Rattle.addresses.specs.declared.address.Addr.{Addr}
 use Rattle.addresses.specs.declared.address.Addr.TheVariants.{V4}
 use Rattle.addresses.specs.AddressOrder.{address_parts, order_by_parts, is_same_address}
-use Rattle.addresses.specs.laws.AddressOrder.{parts_order-total, parts_order-antisymmetric, order_by_parts-total}
+use Rattle.addresses.specs.laws.AddressOrder.{parts_order-total, order_by_parts-total}
 use Rattle.tables.specs.LookUps.{is_of}
 use Rattle.tables.specs.laws.Row.{held_at-live, held_at-ended}
 use Rattle.tables.specs.Rows.{held_at, slots_at}
-use Rattle.tables.specs.Search.{AreAscending, IsFoundAt, IsMissingAt, IsPlace, with_row}
+use Rattle.tables.specs.Search.{AreAscending, row_of, put_row}
 use Rattle.tables.specs.Stored.{stored_at, client_in, left_at, AreClients}
 use Rattle.tables.specs.laws.WellFormed.{get-set_same, get-set_other, inside}
 use Rattle.tables.specs.declared.clients.Client.{Client}
 use Rattle.tables.specs.WellFormed.{AreWellFormed}
 use Rattle.tables.specs.declared.held.Held.{Held}
 use Rattle.tables.specs.declared.moment.TheConstants.{LATEST}
-use Rattle.tables.proofs.Ascending.{searchable, Ascending-filter, Ascending-put}
-use Rattle.tables.proofs.Lists.{All-insert}
-use Rattle.tables.proofs.Peers.{tied_when_same, same-found, same-missing}
+use Rattle.tables.proofs.Ascending.{searchable, Ascending-filter, Ascending-put_row, is_same-by_parts}
+use Rattle.tables.proofs.Lists.{find-Some, find-None, find-each}
+use Rattle.tables.proofs.Searches.{found_once, All-put_row, All-from_put_row}
 
 abbrev pub key_in : Client → List ℕ × ℕ
 key_in row = address_parts row.address
@@ -34,6 +33,10 @@ key_in row = address_parts row.address
 -- how a row compares with a client
 abbrev pub by_client : Addr → Client → Ordering
 by_client client row = order_by_parts row.address client
+
+-- the clients whose slots hold something
+abbrev pub with_slots_in : List Client → List (Option Held) → List Client
+with_slots_in clients slots = filter (λ row. is_some (stored_at slots row.slot)) clients
 
 -- what is read after the last row
 abbrev pub blank : Client
@@ -81,42 +84,36 @@ found_in t client a (o ∷ slots) (suc s) at same only =
     (of_none t client o (λ held is. false_from_ne_true (is_same_address client held.allocation.client) (λ h. let one = only zero held is h in omega (arith, one)))))
     ∙ found_in t client a slots s at same (λ k held is h. let one = only (suc k) held is h in omega (arith, one))
 
-module _ (slots : List (Option Held)) (clients : List Client) (are : AreClients slots clients) (client : Addr) (i : ℕ) where
+module _ (slots : List (Option Held)) (clients : List Client) (are : AreClients slots clients) (client : Addr) where
   row_held : (j k : ℕ) (d : Client) (held : Held) → j < length clients → stored_at slots k ≡ Some held → (get_or clients j d).slot ≡ k → (get_or clients j d).address ≡ held.allocation.client
   row_held j k d held l is at = same_Some _ _ (sym (are.held j d l) ∙ ap (λ n. client_in (stored_at slots n)) at ∙ ap client_in is)
 
-  not_listed : IsMissingAt (by_client client) clients i → (k : ℕ) (held : Held) → stored_at slots k ≡ Some held → is_same_address client held.allocation.client ≡ false
+  has_client : (j k : ℕ) (d : Client) (held : Held) → j < length clients → stored_at slots k ≡ Some held → (get_or clients j d).slot ≡ k → is_same_address client held.allocation.client ≡ true
+      → is_eq (by_client client (get_or clients j d)) ≡ true
+  has_client j k d held l is at same = is_same-by_parts client (get_or clients j d).address ∙ ap (is_same_address client) (row_held j k d held l is at) ∙ same
+
+  not_listed : row_of (by_client client) clients ≡ None → (k : ℕ) (held : Held) → stored_at slots k ≡ Some held → is_same_address client held.allocation.client ≡ false
   not_listed none k held is = false_from_ne_true (is_same_address client held.allocation.client) (λ same. are.listed k held is (λ j d l at.
-      both_ways (is_same_address client (get_or clients j d).address) (same-missing (λ (row : Client). row.address) client clients i none j d l) (ap (is_same_address client) (row_held j k d held l is at) ∙ same)))
+      both_ways (is_eq (by_client client (get_or clients j d))) (find-None (λ row. is_eq (by_client client row)) clients none j d l) (has_client j k d held l is at same)))
 
-  pub held_by-missing : (t : ℕ) → IsMissingAt (by_client client) clients i → find (is_of client) (slots_at t slots) ≡ None
-  held_by-missing t none = none_in t client slots (not_listed none)
-
-  -- two rows of one client are one
-  tied_rows : (j k : ℕ) (d : Client) → j < k → k < length clients → order_by_parts (get_or clients j d).address client ≡ Equal → order_by_parts (get_or clients k d).address client ≡ Equal → ⊥
-  tied_rows j k d p l one other =
-      let a = (get_or clients j d).address in
-      let b = (get_or clients k d).address in
-      let tie : order_by_parts a b ≡ Equal = IsTotalOrder.congr order_by_parts-total a client b one ∙ tied_back order_by_parts-total b client other in
-      both_ways (is_equal (order_by_parts a b)) (ap is_equal (are.ascending j k d p l)) (ap is_equal tie)
-
-  only_row : (d : Client) → IsFoundAt (by_client client) clients i → (k : ℕ) (held : Held) → stored_at slots k ≡ Some held → is_same_address client held.allocation.client ≡ true → k ≡ (get_or clients i d).slot
-  only_row d at k held is same = elim (cases_eq k (get_or clients i d).slot) [
+  only_row : (row : Client) → row_of (by_client client) clients ≡ Some row → (k : ℕ) (held : Held) → stored_at slots k ≡ Some held → is_same_address client held.allocation.client ≡ true → k ≡ row.slot
+  only_row row there k held is same = elim (cases_eq k row.slot) [
     | inl e ↦ e
-    | inr differ ↦ absurd (are.listed k held is (λ j c l slot.
-        let tie : order_by_parts (get_or clients j c).address client ≡ Equal = tied_when_same client (get_or clients j c).address (ap (is_same_address client) (row_held j k c held l is slot) ∙ same) in
-        elim (cases_order j i) [
-          | inl e ↦ differ (sym slot ∙ ap (λ n. (get_or clients n c).slot) e ∙ ap (λ (r : Client). r.slot) (get_or_default clients i c d at.inside))
-          | inr o ↦ elim o [
-            | inl p ↦ tied_rows j i c p at.inside tie (at.equal c)
-            | inr p ↦ tied_rows i j c p l (at.equal c) tie
-          ]
-        ]))
+    | inr differ ↦ absurd (are.listed k held is (λ j d l at.
+        let once = found_once (by_client client) clients (searchable_by_client client slots clients are) in
+        let one = find-each (λ row. is_eq (by_client client row)) clients once j d l (has_client j k d held l is at same) in
+        differ (sym at ∙ ap (λ (r : Client). r.slot) (same_Some _ _ (sym one ∙ there)))))
   ]
 
-  pub held_by-found : (t : ℕ) (d : Client) → IsFoundAt (by_client client) clients i → option_flatten (find (is_of client) (slots_at t slots)) ≡ option_and_then (held_at t) (stored_at slots (get_or clients i d).slot)
-  held_by-found t d at =
-      found_in t client (get_or clients i d).address slots (get_or clients i d).slot (are.held i d at.inside) (same-found (λ (row : Client). row.address) client clients i d at) (only_row d at)
+  -- what the slot of a client holds is what that of its row holds
+  pub held_by-row_of : (t : ℕ) → option_flatten (find (is_of client) (slots_at t slots)) ≡ option_and_then (λ row. option_and_then (held_at t) (stored_at slots row.slot)) (row_of (by_client client) clients)
+  held_by-row_of t =
+      elim (row_of (by_client client) clients) as (λ r. row_of (by_client client) clients ≡ r → option_flatten (find (is_of client) (slots_at t slots)) ≡ option_and_then (λ row. option_and_then (held_at t) (stored_at slots row.slot)) r) [
+        | None ↦ λ none. ap option_flatten (none_in t client slots (not_listed none))
+        | Some row ↦ λ there.
+            let r = find-Some (λ row. is_eq (by_client client row)) (λ row. client_in (stored_at slots row.slot) ≡ Some row.address) clients row are.held there in
+            found_in t client row.address slots row.slot r.0 (sym (is_same-by_parts client row.address) ∙ r.1) (only_row row there)
+      ] refl
 
 -- ---- slots that are swept
 
@@ -161,14 +158,10 @@ empty-swept t slots k is = stored_at-swept t slots k ∙ left_none t (stored_at 
 -- ---- clients that are kept
 
 module _ {X : Type 0} (p : X → Bool) (P Q : X → Type 0) where
-  pub All-kept : ((x : X) → P x → p x ≡ true → Q x) → (xs : List X) → All P xs → All Q (filter p xs)
-  All-kept h [] all = λ k d l. absurd (omega (arith, l))
-  All-kept h (x ∷ xs) all = elim (cases_Bool (p x)) [
-    | inl t ↦ subst (All Q) (sym (cond-true (p x) (x ∷ filter p xs) (filter p xs) t)) (All-cons Q x (filter p xs) (h x (all zero x (omega arith)) t) (All-kept h xs (All-tail P x xs all)))
-    | inr f ↦ subst (All Q) (sym (cond-false (p x) (x ∷ filter p xs) (filter p xs) f)) (All-kept h xs (All-tail P x xs all))
-  ]
+  All-kept : ((x : X) → P x → p x ≡ true → Q x) → (xs : List X) → All P xs → All Q (filter p xs)
+  All-kept h xs all = λ k d l. h (get_or (filter p xs) k d) (All-filter p P xs all k d l) (filter_passes p xs k d l)
 
-  pub All-unkept : ((x : X) → P x → p x ≡ false → Q x) → (xs : List X) → All P xs → All Q (filter p xs) → All Q xs
+  All-unkept : ((x : X) → P x → p x ≡ false → Q x) → (xs : List X) → All P xs → All Q (filter p xs) → All Q xs
   All-unkept h [] all kept = λ k d l. absurd (omega (arith, l))
   All-unkept h (x ∷ xs) all kept = elim (cases_Bool (p x)) [
     | inl t ↦
@@ -222,22 +215,21 @@ module _ (t : ℕ) (slots : List (Option Held)) (clients : List Client) (are : A
   swept_are = left_are (left_at t) refl (λ o held is. ap client_in (left_some t o held is).0) slots clients are
 
   -- a client whose allocation does not count has no row
-  pub no_row : (client : Addr) → option_flatten (find (is_of client) (slots_at t slots)) ≡ None → (i : ℕ)
-      → IsFoundAt (by_client client) (filter (λ row. is_some (stored_at (map (left_at t) slots) row.slot)) clients) i → ⊥
-  no_row client none i at =
+  pub no_row : (client : Addr) → option_flatten (find (is_of client) (slots_at t slots)) ≡ None → row_of (by_client client) (filter (λ row. is_some (stored_at (map (left_at t) slots) row.slot)) clients) ≡ None
+  no_row client none =
       let rows : List Client = filter has_slot clients in
-      let row : Client = get_or rows i blank in
       let new_slots : List (Option Held) = map (left_at t) slots in
-      let found = held_by-found new_slots rows swept_are client i t blank at in
-      let there : client_in (stored_at new_slots row.slot) ≡ Some row.address = swept_are.held i blank at.inside in
-      elim (stored_at new_slots row.slot) as (λ o. stored_at new_slots row.slot ≡ o → ⊥) [
-        | None ↦ λ is. none-some row.address (sym (ap client_in is) ∙ there)
-        | Some held ↦ λ is.
-            let counts = (left_some t (stored_at slots row.slot) held (sym (stored_at-swept t slots row.slot) ∙ is)).1 in
-            none-some _ (sym none ∙ ap (λ s. option_flatten (find (is_of client) s)) (sym (slots_at-swept t slots)) ∙ found ∙ ap (option_and_then (held_at t)) is ∙ held_at-live t held counts)
+      elim (row_of (by_client client) rows) as (λ r. row_of (by_client client) rows ≡ r → r ≡ None) [
+        | None ↦ λ _. refl
+        | Some row ↦ λ is.
+            let nothing = sym (ap (option_and_then (λ row. option_and_then (held_at t) (stored_at new_slots row.slot))) is) ∙ sym (held_by-row_of new_slots rows swept_are client t)
+            ∙ ap (λ s. option_flatten (find (is_of client) s)) (slots_at-swept t slots) ∙ none in
+            let there = (find-Some (λ row. is_eq (by_client client row)) (λ row. client_in (stored_at new_slots row.slot) ≡ Some row.address) rows row swept_are.held is).0 in
+            let empty = stored_at-swept t slots row.slot ∙ left_none t (stored_at slots row.slot) (sym (left_again t (stored_at slots row.slot)) ∙ ap (option_and_then (held_at t)) (sym (stored_at-swept t slots row.slot)) ∙ nothing) in
+            absurd (none-some row.address (sym (ap client_in empty) ∙ there))
       ] refl
 
--- ---- slots that are filled
+-- ---- there are no more clients than slots
 
 either_part : (a b : Bool) → (a || b) ≡ true → a ≡ false → b ≡ true
 either_part true b h f = absurd (both_ways true f refl)
@@ -249,6 +241,34 @@ below_by q n (x ∷ xs) all any = elim (cases_Bool (eqb q x)) [
   | inl t ↦ omega (arith, eqb-true q x t, all zero x (omega arith))
   | inr f ↦ below_by q n xs (All-tail (λ x. x < n) x xs all) (either_part (eqb q x) (list_any (eqb q) xs) any f)
 ]
+
+module _ (slots : List (Option Held)) (clients : List Client) (are : AreClients slots clients) where
+  abbrev numbers : List ℕ
+  numbers = map (λ (row : Client). row.slot) clients
+
+  -- two clients have two slots
+  slots_differ : (i j : ℕ) (d : Client) → i < j → j < length clients → (get_or clients i d).slot ≢ (get_or clients j d).slot
+  slots_differ i j d p l s =
+      let a = (get_or clients i d).address in
+      let b = (get_or clients j d).address in
+      let same : a ≡ b = same_Some _ _ (sym (are.held i d (omega (arith, p, l))) ∙ ap (λ n. client_in (stored_at slots n)) s ∙ are.held j d l) in
+      both_ways (is_eq (order_by_parts a b)) (ap is_eq (are.ascending i j d p l)) (ap is_eq (subst (λ (c : Addr). order_by_parts a c ≡ Equal) same (tied_itself order_by_parts-total a)))
+
+  pub few_clients : length clients ≤ length slots
+  few_clients =
+      let each : All (λ (row : Client). row.slot < length slots) clients = λ i d l.
+      let held = some_client (stored_at slots (get_or clients i d).slot) (get_or clients i d).address (are.held i d l) in
+      inside slots (get_or clients i d).slot held.0 held.1 in
+      let below : All (λ n. n < length slots) numbers = All-map (λ n. n < length slots) (λ (row : Client). row.slot) clients each in
+      let long : length numbers ≡ length clients = length-map clients (λ (row : Client). row.slot) in
+      let number : (i d : ℕ) → i < length clients → get_or numbers i d ≡ (get_or clients i blank).slot = λ i d l. get_or-map (λ (row : Client). row.slot) clients i blank d l in
+      let apart : (i j d : ℕ) → i < j → j < length numbers → eqb (get_or numbers i d) (get_or numbers j d) ≡ false = λ i j d p l.
+      let within : j < length clients = omega (arith, l, long) in
+      ne_eqb _ _ (λ s. slots_differ i j blank p within (sym (number i d (omega (arith, p, within))) ∙ s ∙ number j d within)) in
+      let few : length numbers ≤ length slots = length-le_from_distinct_below numbers (length slots) (IsDistinct-from_apart eqb numbers apart) (λ q any. below_by q (length slots) numbers below any) in
+      omega (arith, few, long)
+
+-- ---- slots that are filled
 
 -- a slot keeps its client
 pub held_again : (slots : List (Option Held)) (clients : List Client) (slot : ℕ) (held : Held) → AreClients slots clients → slot < length slots → client_in (stored_at slots slot) ≡ Some held.allocation.client
@@ -278,71 +298,23 @@ module _ (slots : List (Option Held)) (clients : List Client) (are : AreClients 
   pub elsewhere : All (λ row. row.slot ≢ slot) clients
   elsewhere = λ i d l at. none-some (get_or clients i d).address (sym (ap client_in (ap (stored_at slots) at ∙ free)) ∙ are.held i d l)
 
-  inserted_are : (i : ℕ) → IsMissingAt (by_client held.allocation.client) clients i → AreClients (set slots slot (Some held)) (insert_at clients i new_row)
-  inserted_are i none =
+  pub admitted_are : row_of (by_client held.allocation.client) clients ≡ None → AreClients (set slots slot (Some held)) (put_row (by_client held.allocation.client) new_row clients)
+  admitted_are new =
       let new_slots : List (Option Held) = set slots slot (Some held) in
-      let rows : List Client = insert_at clients i new_row in
+      let order = by_client held.allocation.client in
       let here : stored_at new_slots slot ≡ Some held = get-set_same slots slot (Some held) within in
       let there : (k : ℕ) → k ≢ slot → stored_at new_slots k ≡ stored_at slots k = λ k differ. ap option_flatten (get-set_other slots slot k (Some held) differ) in
-      let long : length rows ≡ length clients + 1 = length-insert clients i new_row none.inside in
       record {
-        ascending = Ascending-put parts_order-total key_in parts_order-antisymmetric clients (Err i) new_row are.ascending none;
-        held = All-insert (λ row. client_in (stored_at new_slots row.slot) ≡ Some row.address) clients i new_row none.inside
-            (λ j d l. ap client_in (there (get_or clients j d).slot (elsewhere j d l)) ∙ are.held j d l) (ap client_in here);
-        listed = λ k other is all. elim (cases_eq k slot) [
-          | inl e ↦ all i new_row (omega (arith, long, none.inside)) (ap (λ (r : Client). r.slot) (get_or-insert_at clients i new_row new_row none.inside) ∙ sym e)
-          | inr differ ↦ are.listed k other (sym (there k differ) ∙ is) (λ j d l at. elim (cases_lt j i) [
-            | inl p ↦ all j d (omega (arith, l, long)) (ap (λ (r : Client). r.slot) (get_or-insert_below clients i new_row d j p none.inside) ∙ at)
-            | inr p ↦ all (j + 1) d (omega (arith, l, long)) (ap (λ (r : Client). r.slot) (get_or-insert_above clients i new_row d j p none.inside) ∙ at)
-          ])
-        ];
+        ascending = Ascending-put_row parts_order-total key_in new_row clients are.ascending;
+        held = All-put_row order (λ row. client_in (stored_at new_slots row.slot) ≡ Some row.address) new_row clients (ap client_in here)
+            (λ j d l. ap client_in (there (get_or clients j d).slot (elsewhere j d l)) ∙ are.held j d l);
+        listed = λ k other is all.
+            let each = All-from_put_row order (λ row. row.slot ≢ k) new_row clients all in
+            elim (cases_eq k slot) [
+              | inl e ↦ each.0 (sym e)
+              | inr differ ↦ are.listed k other (sym (there k differ) ∙ is) (each.1 (find-None (λ row. is_eq (order row)) clients new))
+            ];
       }
-
-  pub admitted_are : (place : Result ℕ ℕ) → IsPlace (by_client held.allocation.client) clients place → ((i : ℕ) → IsFoundAt (by_client held.allocation.client) clients i → ⊥)
-      → AreClients (set slots slot (Some held)) (with_row place new_row clients)
-  admitted_are (Ok i) at new = absurd (new i at)
-  admitted_are (Err i) none new = inserted_are i none
-
-  abbrev numbers : List ℕ
-  numbers = slot ∷ map (λ (row : Client). row.slot) clients
-
-  number_at : (j d : ℕ) → j < length clients → get_or (map (λ (row : Client). row.slot) clients) j d ≡ (get_or clients j blank).slot
-  number_at j d l = get_or-map (λ (row : Client). row.slot) clients j blank d l
-
-  -- two clients have two slots
-  slots_differ : (i j : ℕ) → i < j → j < length clients → (get_or clients i blank).slot ≢ (get_or clients j blank).slot
-  slots_differ i j p l s =
-      let a = (get_or clients i blank).address in
-      let b = (get_or clients j blank).address in
-      let same : a ≡ b = same_Some _ _ (sym (are.held i blank (omega (arith, p, l))) ∙ ap (λ n. client_in (stored_at slots n)) s ∙ are.held j blank l) in
-      both_ways (is_equal (order_by_parts a b)) (ap is_equal (are.ascending i j blank p l)) (ap is_equal (subst (λ (c : Addr). order_by_parts a c ≡ Equal) same (tied_itself order_by_parts-total a)))
-
-  numbers_apart : (i j d : ℕ) → i < j → j < length numbers → eqb (get_or numbers i d) (get_or numbers j d) ≡ false
-  numbers_apart zero zero d p l = absurd (omega (arith, p))
-  numbers_apart (suc i) zero d p l = absurd (omega (arith, p))
-  numbers_apart zero (suc j) d p l =
-      let within : j < length clients = omega (arith, l, length-map clients (λ (row : Client). row.slot)) in
-      ne_eqb slot _ (λ s. elsewhere j blank within (sym (number_at j d within) ∙ sym s))
-  numbers_apart (suc i) (suc j) d p l =
-      let within : j < length clients = omega (arith, l, length-map clients (λ (row : Client). row.slot)) in
-      ne_eqb _ _ (λ s. slots_differ i j (omega (arith, p)) within (sym (number_at i d (omega (arith, p, within))) ∙ s ∙ number_at j d within))
-
-  -- there are fewer clients than slots
-  pub few_clients : length clients < length slots
-  few_clients =
-      let each : All (λ (row : Client). row.slot < length slots) clients = λ i d l.
-      let held = some_client (stored_at slots (get_or clients i d).slot) (get_or clients i d).address (are.held i d l) in
-      inside slots (get_or clients i d).slot held.0 held.1 in
-      let below : All (λ n. n < length slots) numbers = All-cons (λ n. n < length slots) slot _ within (All-map (λ n. n < length slots) (λ (row : Client). row.slot) clients each) in
-      let few : length numbers ≤ length slots = length-le_from_distinct_below numbers (length slots) (IsDistinct-from_apart eqb numbers numbers_apart) (λ q any. below_by q (length slots) numbers below any) in
-      omega (arith, few, length-map clients (λ (row : Client). row.slot))
-
-pub client_of_counted : (t : ℕ) (o : Option Held) (a : Addr) → client_in (option_and_then (held_at t) o) ≡ Some a → client_in o ≡ Some a
-client_of_counted t None a is = is
-client_of_counted t (Some held) a is = elim (cases_Bool (nat_lt t held.allocation.end)) [
-  | inl c ↦ sym (ap client_in (held_at-live t held c)) ∙ is
-  | inr e ↦ absurd (none-some a (sym (ap client_in (held_at-ended t held e)) ∙ is))
-]
 
 -- ---- a new client, once slots are swept
 
@@ -354,18 +326,15 @@ module _ (t : ℕ) (slots : List (Option Held)) (clients : List Client) (are : A
   abbrev pub kept : List Client
   kept = filter (λ row. is_some (stored_at (map (left_at t) slots) row.slot)) clients
 
-  within_swept : slot < length swept
-  within_swept = omega (arith, within, length-map slots (left_at t))
+  pub are-admitted : option_flatten (find (is_of held.allocation.client) (slots_at t slots)) ≡ None
+      → AreClients (set swept slot (Some held)) (put_row (by_client held.allocation.client) (record { address = held.allocation.client; slot = slot }) kept)
+  are-admitted none =
+      admitted_are swept kept (swept_are t slots clients are) slot held (omega (arith, within, length-map slots (left_at t))) (empty-swept t slots slot free) (no_row t slots clients are held.allocation.client none)
 
-  pub few-admitted : length kept < length slots
-  few-admitted =
-      let few = few_clients swept kept (swept_are t slots clients are) slot held within_swept (empty-swept t slots slot free) in
-      omega (arith, few, length-map slots (left_at t))
-
-  pub are-admitted : option_flatten (find (is_of held.allocation.client) (slots_at t slots)) ≡ None → (place : Result ℕ ℕ) → IsPlace (by_client held.allocation.client) kept place
-      → AreClients (set swept slot (Some held)) (with_row place (record { address = held.allocation.client; slot = slot }) kept)
-  are-admitted none place at =
-      admitted_are swept kept (swept_are t slots clients are) slot held within_swept (empty-swept t slots slot free) place at (no_row t slots clients are held.allocation.client none)
+  -- there is room for the client
+  pub few-admitted : option_flatten (find (is_of held.allocation.client) (slots_at t slots)) ≡ None
+      → length (put_row (by_client held.allocation.client) (record { address = held.allocation.client; slot = slot }) kept) ≤ length slots
+  few-admitted none = omega (arith, few_clients _ _ (are-admitted none), length-set swept slot (Some held), length-map slots (left_at t))
 
   pub slots_at-admitted : slots_at t (set swept slot (Some held)) ≡ set (slots_at t slots) slot (held_at t held)
   slots_at-admitted = map-set (option_and_then (held_at t)) swept slot (Some held) ∙ ap (λ s. set s slot (held_at t held)) (slots_at-swept t slots)
@@ -378,8 +347,3 @@ swept-well_formed m t slots latest are = record {
   few = omega (arith, are.few, length-map slots (left_at t));
   held = λ slot held there. are.held slot held (left_some t (stored_at slots slot) held (sym (stored_at-swept t slots slot) ∙ there)).0;
 }
-
--- the clients that the code keeps
-pub kept_shown : (left : List (Option Held)) (clients : List Client) (shown_slots : List (Option Held)) (shown rows : List Client) → rows ≡ filter (λ row. is_some (stored_at shown_slots row.slot)) shown
-    → shown_slots ≡ left → shown ≡ clients → rows ≡ filter (λ row. is_some (stored_at left row.slot)) clients
-kept_shown left clients shown_slots shown rows made same_slots same = made ∙ (λ i. filter (λ row. is_some (stored_at (same_slots i) row.slot)) (same i))

@@ -2,7 +2,7 @@ pub mod Lists
 pub mod Searches
 pub mod Ascending
 pub mod Maps
-pub mod Peers
+pub mod RowMaps
 pub mod PermissionRows
 pub mod ChannelRows
 pub mod Slots

@@ -1,27 +1,23 @@
 -- Permissions as they are stored, and their map.
-use Rattle.std.proofs.Common.{Ordering, ◌≡◌, ℕ, ◌+◌, ◌<◌, ◌≤◌, Bool, true, false, cond, List, [], ◌∷◌, length, get_or, set, take, filter, nat_lt, Option, Some, None, is_some, Result, Ok, Err, is_err, OnErr, sym, refl, ap, ◌∙◌, inl, inr, arith}
+use Rattle.std.proofs.Common.{Ordering, ◌≡◌, ℕ, ◌+◌, ◌<◌, ◌≤◌, Bool, true, false, cond, List, [], ◌∷◌, length, get_or, take, filter, nat_lt, Option, None, Some, is_some, option_map, refl, sym, ap, ◌∙◌, inl, inr, arith}
 use Rattle.std.specs.FinMap.{get, insert, len, contains_key, get-insert, len-insert}
 use Rattle.std.specs.Ordering.{eq_by_cmp}
-use Rattle.std.proofs.lemmas.Bool.{cases_Bool, cond-true, cond-false, both_ways}
-use Rattle.std.specs.List.{insert as insert_at}
-use Rattle.std.specs.FinMap.{get-from_entries}
-use Rattle.std.proofs.lemmas.List.{length-set, take_more}
-use Rattle.std.proofs.lemmas.List.Edits.{length-insert}
+use Rattle.std.proofs.lemmas.Bool.{cases_Bool, cond-true, cond-false}
+use Rattle.std.proofs.lemmas.List.{take_more}
 use Rattle.addresses.specs.Addresses.{ip_of}
 use Rattle.addresses.specs.declared.address.Addr.{Addr}
-use Rattle.addresses.specs.declared.address.Addr.TheVariants.{V4}
 use Rattle.tables.specs.Moments.{is_live_at}
 use Rattle.tables.specs.Permissions.{PermissionMap, permissions_at, with_all}
 use Rattle.tables.specs.RowLists.{permissions_of, ArePermissions}
 use Rattle.tables.specs.declared.permissions.Permission.{Permission}
-use Rattle.tables.proofs.Lists.{length-filter-le}
 use Rattle.addresses.specs.AddressOrder.{ip_cmp, ip_order}
-use Rattle.addresses.specs.laws.AddressOrder.{ip_order-total, ip_order-antisymmetric, ip_total, ip_antisymmetric}
+use Rattle.addresses.specs.laws.AddressOrder.{ip_order-total, ip_order-same, ip_total, ip_antisymmetric}
 use Rattle.tables.specs.laws.Permit.{with_all-append}
-use Rattle.tables.specs.Search.{AreAscending, IsFoundAt, IsMissingAt, IsPlace}
+use Rattle.tables.specs.Search.{AreAscending, row_of, put_row}
 use Rattle.tables.specs.SortedRows.{AreSortedPermissions}
-use Rattle.tables.proofs.Ascending.{searchable, Ascending-distinct, Ascending-filter, Ascending-set, Ascending-insert, missing_key, found_key}
-use Rattle.tables.proofs.Maps.{from_entries-filter, from_entries-set, from_entries-insert, len-from_entries, find_at, find-absent, len-insert-ge}
+use Rattle.tables.proofs.Ascending.{searchable, Ascending-distinct, Ascending-filter, Ascending-put_row}
+use Rattle.tables.proofs.Maps.{len-insert-ge}
+use Rattle.tables.proofs.RowMaps.{get-row_of, len-map_of, map_of-filter, map_of-put_row}
 
 abbrev pub entry_of : Permission → List ℕ × ℕ
 entry_of row = (ip_of row.ip, row.end)
@@ -33,73 +29,35 @@ ip_in row = ip_of row.ip
 abbrev pub by_ip : List ℕ → Permission → Ordering
 by_ip ip row = ip_order (ip_of row.ip) ip
 
--- what is read beyond the last row
-abbrev pub blank : Permission
-blank = record { ip = V4 [] 0; end = 0 }
+module _ (rows : List Permission) (sorted : AreSortedPermissions rows) where
+  pub are_permissions : ArePermissions rows
+  are_permissions = record { distinct = Ascending-distinct ip_order-total ip_in rows sorted }
 
--- a row with a new end
-abbrev pub ending : ℕ → Permission → Permission
-ending end row = record row { end = end }
+  pub searchable_by : (ip : List ℕ) → AreAscending (by_ip ip) rows
+  searchable_by ip = searchable ip_order-total ip_in rows ip sorted
 
-pub are_permissions : (rows : List Permission) → AreSortedPermissions rows → ArePermissions rows
-are_permissions rows sorted = record { distinct = Ascending-distinct ip_order-total ip_in rows sorted }
+  pub len-permissions : len (permissions_of rows) ≡ length rows
+  len-permissions = len-map_of ip_total ip_antisymmetric entry_of rows are_permissions.distinct
 
-pub searchable_by : (ip : List ℕ) (rows : List Permission) → AreSortedPermissions rows → AreAscending (by_ip ip) rows
-searchable_by ip rows sorted = searchable ip_order-total ip_in rows ip sorted
+  -- the live ones
+  pub sorted-filtered : (t : ℕ) → AreSortedPermissions (filter (λ row. nat_lt t row.end) rows)
+  sorted-filtered t = Ascending-filter ip_order-total ip_in (λ row. nat_lt t row.end) rows sorted
 
-pub len-permissions : (rows : List Permission) → AreSortedPermissions rows → len (permissions_of rows) ≡ length rows
-len-permissions rows sorted = len-from_entries ip_total ip_antisymmetric entry_of rows (are_permissions rows sorted).distinct
+  pub permissions_of-filtered : (t : ℕ) → permissions_of (filter (λ row. nat_lt t row.end) rows) ≡ permissions_at t (permissions_of rows)
+  permissions_of-filtered t = map_of-filter ip_total ip_antisymmetric entry_of (is_live_at t) (λ row. nat_lt t row.end) (λ x. refl) rows are_permissions.distinct
 
--- ---- the live ones
+  -- with a row at its place
+  pub sorted-put : (row : Permission) → AreSortedPermissions (put_row (by_ip (ip_of row.ip)) row rows)
+  sorted-put row = Ascending-put_row ip_order-total ip_in row rows sorted
 
-pub filtered_are : (t : ℕ) (rows : List Permission) → AreSortedPermissions rows → AreSortedPermissions (filter (λ row. nat_lt t row.end) rows)
-filtered_are t rows sorted = Ascending-filter ip_order-total ip_in (λ row. nat_lt t row.end) rows sorted
+  pub permissions_of-put : (row : Permission) → permissions_of (put_row (by_ip (ip_of row.ip)) row rows) ≡ insert (permissions_of rows) (ip_of row.ip) row.end
+  permissions_of-put row = map_of-put_row ip_total ip_antisymmetric entry_of (by_ip (ip_of row.ip)) row rows (λ k d l. ip_order-same (ip_of (get_or rows k d).ip) (ip_of row.ip))
 
-pub filtered : (t : ℕ) (rows : List Permission) → AreSortedPermissions rows → permissions_of (filter (λ row. nat_lt t row.end) rows) ≡ permissions_at t (permissions_of rows)
-filtered t rows are = from_entries-filter ip_total ip_antisymmetric entry_of (is_live_at t) (λ row. nat_lt t row.end) (λ x. refl) rows (are_permissions rows are).distinct
+pub len-put : (rows : List Permission) → AreSortedPermissions rows → (row : Permission) → length (put_row (by_ip (ip_of row.ip)) row rows) ≡ len (insert (permissions_of rows) (ip_of row.ip) row.end)
+len-put rows sorted row = sym (len-permissions (put_row (by_ip (ip_of row.ip)) row rows) (sorted-put rows sorted row)) ∙ ap len (permissions_of-put rows sorted row)
 
-pub len-filtered : (t most : ℕ) (rows : List Permission) → AreSortedPermissions rows → length rows ≤ most → len (permissions_of (filter (λ row. nat_lt t row.end) rows)) ≤ most
-len-filtered t most rows are few =
-    omega (arith, len-permissions (filter (λ row. nat_lt t row.end) rows) (filtered_are t rows are), length-filter-le (λ row. nat_lt t row.end) rows)
-
--- ---- a look-up
-
-pub found : (ip : List ℕ) (rows : List Permission) (i : ℕ) (d : Permission) → AreSortedPermissions rows → IsFoundAt (by_ip ip) rows i → get (permissions_of rows) ip ≡ Some (get_or rows i d).end
-found ip rows i d sorted at =
-    get-from_entries ip_total _ ip ∙ find_at ip_total ip_antisymmetric entry_of ip rows i d (are_permissions rows sorted).distinct at.inside (found_key ip_order-total ip_in ip_order-antisymmetric rows ip i d at)
-
-pub missing : (ip : List ℕ) (rows : List Permission) (i : ℕ) → IsMissingAt (by_ip ip) rows i → get (permissions_of rows) ip ≡ None
-missing ip rows i none = get-from_entries ip_total _ ip ∙ find-absent ip_total ip_antisymmetric entry_of ip rows (missing_key ip_order-total ip_in rows ip i none)
-
--- ---- a new end
-
-module _ (ip : List ℕ) (rows : List Permission) (sorted : AreSortedPermissions rows) (i end : ℕ) (d : Permission) (at : IsFoundAt (by_ip ip) rows i) where
-  pub renewed_are : AreSortedPermissions (set rows i (ending end (get_or rows i d)))
-  renewed_are = Ascending-set ip_order-total ip_in rows i (ending end (get_or rows i d)) d sorted at.inside refl
-
-  pub renewed : permissions_of (set rows i (ending end (get_or rows i d))) ≡ insert (permissions_of rows) ip end
-  renewed =
-      from_entries-set ip_total ip_antisymmetric entry_of rows i (ending end (get_or rows i d)) d (are_permissions rows sorted).distinct at.inside refl
-      ∙ ap (λ k. insert (permissions_of rows) k end) (sym (found_key ip_order-total ip_in ip_order-antisymmetric rows ip i d at))
-
-  pub len-renewed : (most : ℕ) → length rows ≤ most → len (permissions_of (set rows i (ending end (get_or rows i d)))) ≤ most
-  len-renewed most few =
-      omega (arith, len-permissions (set rows i (ending end (get_or rows i d))) renewed_are, length-set rows i (ending end (get_or rows i d)))
-
--- ---- a new permission
-
-module _ (rows : List Permission) (sorted : AreSortedPermissions rows) (row : Permission) (i : ℕ) (none : IsMissingAt (by_ip (ip_of row.ip)) rows i) where
-  pub inserted_are : AreSortedPermissions (insert_at rows i row)
-  inserted_are = Ascending-insert ip_order-total ip_in rows i row sorted none
-
-  pub inserted : permissions_of (insert_at rows i row) ≡ insert (permissions_of rows) (ip_of row.ip) row.end
-  inserted = from_entries-insert ip_total ip_antisymmetric entry_of rows i row (missing_key ip_order-total ip_in rows (ip_of row.ip) i none)
-
-  pub len-inserted : len (permissions_of (insert_at rows i row)) ≡ length rows + 1
-  len-inserted = len-permissions (insert_at rows i row) inserted_are ∙ length-insert rows i row none.inside
-
-  pub len-insert-full : len (insert (permissions_of rows) (ip_of row.ip) row.end) ≡ length rows + 1
-  len-insert-full = ap len (sym inserted) ∙ len-inserted
+pub get-permission : (ip : List ℕ) (rows : List Permission) → get (permissions_of rows) ip ≡ option_map (λ row. row.end) (row_of (by_ip ip) rows)
+get-permission ip rows = get-row_of ip_total ip_antisymmetric entry_of (by_ip ip) ip rows (λ k d l. ip_order-same (ip_of (get_or rows k d).ip) ip)
 
 -- ---- permissions for all
 
@@ -109,9 +67,9 @@ len-with_all-ge m (ip ∷ ips) end = omega (arith, len-insert-ge ip_total m (ip_
 
 -- ---- room for all
 
-pub has_row : (ip : List ℕ) (rows : List Permission) (place : Result ℕ ℕ) → AreSortedPermissions rows → IsPlace (by_ip ip) rows place → is_err place ≡ false → is_some (get (permissions_of rows) ip) ≡ true
-has_row ip rows (Ok i) sorted at h = ap is_some (found ip rows i blank sorted at)
-has_row ip rows (Err i) sorted none h = absurd (both_ways true h refl)
+pub is_some-map : {A B : Type 0} (f : A → B) (o : Option A) → is_some (option_map f o) ≡ is_some o
+is_some-map f None = refl
+is_some-map f (Some x) = refl
 
 len-insert-le : (m : PermissionMap) (ip : List ℕ) (end : ℕ) → len (insert m ip end) ≤ len m + 1
 len-insert-le m ip end = elim (cases_Bool (contains_key m ip)) [
@@ -142,7 +100,3 @@ module _ (m : PermissionMap) (ips : List Addr) (i end : ℕ) (d : Addr) (within 
       let so_far = with_all m (take i ips) end in
       let ip = ip_of (get_or ips i d) in
       omega (arith, fits, ap len one_more, len-insert ip_total so_far ip end ∙ cond-true (contains_key so_far ip) (len so_far) (len so_far + 1) (stays m (take i ips) end ip there))
-
-pub on_err : {A E : Type 0} {P : Type 0} (r : Result A E) → P → OnErr r P
-on_err (Ok x) p = tt
-on_err (Err e) p = p

@@ -12,7 +12,7 @@ use Rattle.std.specs.List.{list_all}
 use Rattle.addresses.specs.Addresses.{IsAddress, ip_of, is_of_family}
 use Rattle.addresses.specs.laws.AddressOrder.{ip_total, ip_antisymmetric}
 use Rattle.addresses.specs.declared.address.Addr.{Addr}
-use Rattle.tables.specs.Changes.{Change, Follows, with_held, refresh_change, permit_change, bind_change, permission_end}
+use Rattle.tables.specs.Changes.{Change, Follows, with_held, permit_change, bind_change, permission_end}
 use Rattle.tables.specs.Channels.{ChannelMap, IsChannelNumber, channels_at, may_bind}
 use Rattle.tables.specs.LookUps.{held_in}
 use Rattle.tables.specs.laws.Map.{len-within}
@@ -22,14 +22,15 @@ use Rattle.tables.specs.Retained.{value_if, kept_of}
 use Rattle.tables.specs.laws.Retained.{get-kept_of, kept_again, kept_from}
 use Rattle.tables.specs.laws.Row.{is_live_binding, live_held, held_at-live, held_at-ended, permissions_again, channels_again}
 use Rattle.tables.specs.Rows.{Rows, held_at, live_rows}
-use Rattle.tables.specs.Stored.{AreStored, LeavesHeld, stored_at, client_in, with_end, with_permissions, with_binding, permit_held, bind_held}
+use Rattle.tables.specs.Stored.{AreStored, LeavesHeld, change_held, slot_change, stored_at, client_in, with_end, with_permissions, with_binding, permit_held, bind_held}
 use Rattle.tables.specs.WellFormed.{IsHeldAt}
-use Rattle.tables.specs.laws.WellFormed.{set-well_formed, refreshed-held_at, bound-held_at}
+use Rattle.tables.specs.laws.WellFormed.{set-well_formed, bound-held_at}
 use Rattle.tables.specs.declared.allocation.Allocation.{Allocation}
 use Rattle.tables.specs.declared.channels.Binding.{Binding}
 use Rattle.tables.specs.declared.channels.TheConstants.{CHANNEL_LIFETIME, MAX_CHANNELS}
 use Rattle.tables.specs.declared.clients.Client.{Client}
 use Rattle.tables.specs.declared.held.Held.{Held}
+use Rattle.tables.specs.declared.held.HeldChange.{HeldChange}
 use Rattle.tables.specs.declared.moment.TheConstants.{LATEST}
 use Rattle.tables.specs.declared.permissions.TheConstants.{PERMISSION_LIFETIME, MAX_PERMISSIONS}
 use Rattle.tables.specs.declared.refusal.TableError.{TableError}
@@ -109,9 +110,6 @@ module _ (t : ℕ) (held : Held) where
   pub left-end : (end : ℕ) → held_at t (with_end end held) ≡ held_at t (with_end end (live_held t held))
   left-end end = same_left t (record held.allocation { end = end }) _ _ _ _ same_permissions same_channels
 
-  pub left-permissions : (end : ℕ) (ips : List Addr) → held_at t (with_permissions end ips held) ≡ held_at t (with_permissions end ips (live_held t held))
-  left-permissions end ips = same_left t held.allocation _ _ _ _ (permissions_at-with_all t held.permissions ips end) same_channels
-
   pub left-binding : (number : ℕ) (peer : Addr) → held_at t (with_binding t number peer held) ≡ held_at t (with_binding t number peer (live_held t held))
   left-binding number peer = same_left t held.allocation _ _ _ _
       (kept_of-insert ip_total (is_live_at t) ip_antisymmetric held.permissions (ip_of peer) (t + PERMISSION_LIFETIME))
@@ -125,22 +123,12 @@ leaves change t old new made is same = subst (λ (c : Result Held TableError). L
 
 permit-is : (t : ℕ) (ips : List Addr) (held : Held) → list_all (is_of_family held.allocation.family) ips ≡ true → len (with_all held.permissions ips (t + PERMISSION_LIFETIME)) ≤ MAX_PERMISSIONS
     → permit_held t ips held ≡ Ok (with_permissions (t + PERMISSION_LIFETIME) ips held)
-permit-is t ips held of few =
-    let made : Result Held TableError = Ok (with_permissions (t + PERMISSION_LIFETIME) ips held) in
-    ap (λ (b : Bool). check b refusal.Family >>= (λ _. check (nat_le (len (with_all held.permissions ips (t + PERMISSION_LIFETIME))) MAX_PERMISSIONS) Capacity >>= (λ _. made))) of
-    ∙ ap (λ (b : Bool). check b Capacity >>= (λ _. made)) (le-leb _ _ few)
+permit-is t ips held of few = rw (of, le-leb _ _ few) refl
 
-bind-is : (t number : ℕ) (peer : Addr) (held : Held) → is_of_family held.allocation.family peer ≡ true → IsTrue (may_bind held.channels number peer)
+bind-is : (t number : ℕ) (peer : Addr) (held : Held) → is_of_family held.allocation.family peer ≡ true → may_bind held.channels number peer ≡ true
     → len (with_binding t number peer held).channels ≤ MAX_CHANNELS → len (with_binding t number peer held).permissions ≤ MAX_PERMISSIONS
     → bind_held t number peer held ≡ Ok (with_binding t number peer held)
-bind-is t number peer held of free few_channels few_permissions =
-    let made : Result Held TableError = Ok (with_binding t number peer held) in
-    let channels : ℕ = len (with_binding t number peer held).channels in
-    let permissions : ℕ = len (with_binding t number peer held).permissions in
-    ap (λ (b : Bool). check b refusal.Family >>= (λ _. check (may_bind held.channels number peer) Conflict >>= (λ _. check (nat_le channels MAX_CHANNELS) Capacity >>= (λ _. check (nat_le permissions MAX_PERMISSIONS) Capacity >>= (λ _. made))))) of
-    ∙ ap (λ (b : Bool). check b Conflict >>= (λ _. check (nat_le channels MAX_CHANNELS) Capacity >>= (λ _. check (nat_le permissions MAX_PERMISSIONS) Capacity >>= (λ _. made)))) free
-    ∙ ap (λ (b : Bool). check b Capacity >>= (λ _. check (nat_le permissions MAX_PERMISSIONS) Capacity >>= (λ _. made))) (le-leb _ _ few_channels)
-    ∙ ap (λ (b : Bool). check b Capacity >>= (λ _. made)) (le-leb _ _ few_permissions)
+bind-is t number peer held of free few_channels few_permissions = rw (of, free, le-leb _ _ few_channels, le-leb _ _ few_permissions) refl
 
 full : (b : Bool) (rest : Result Held TableError) → rest ≡ Err Capacity → (check b Capacity >>= (λ _. rest)) ≡ Err Capacity
 full true rest same = same
@@ -149,14 +137,7 @@ full false rest same = refl
 -- where there is no room for the peer's permission
 pub bind-full : (t number : ℕ) (peer : Addr) (held : Held) → is_of_family held.allocation.family peer ≡ true → may_bind held.channels number peer ≡ true
     → nat_le (len (insert held.permissions (ip_of peer) (t + PERMISSION_LIFETIME))) MAX_PERMISSIONS ≡ false → bind_held t number peer held ≡ Err Capacity
-bind-full t number peer held of free no_room =
-    let made : Result Held TableError = Ok (with_binding t number peer held) in
-    let channels : ℕ = len (with_binding t number peer held).channels in
-    let permissions : ℕ = len (with_binding t number peer held).permissions in
-    ap (λ (b : Bool). check b refusal.Family >>= (λ _. check (may_bind held.channels number peer) Conflict >>= (λ _. check (nat_le channels MAX_CHANNELS) Capacity >>= (λ _. check (nat_le permissions MAX_PERMISSIONS) Capacity >>= (λ _. made))))) of
-    ∙ ap (λ (b : Bool). check b Conflict >>= (λ _. check (nat_le channels MAX_CHANNELS) Capacity >>= (λ _. check (nat_le permissions MAX_PERMISSIONS) Capacity >>= (λ _. made)))) free
-    ∙ ap (λ (b : Bool). check (nat_le channels MAX_CHANNELS) Capacity >>= (λ _. check b Capacity >>= (λ _. made))) no_room
-    ∙ full (nat_le channels MAX_CHANNELS) (Err Capacity) refl
+bind-full t number peer held of free no_room = rw (of, free, no_room) (full (nat_le (len (with_binding t number peer held).channels) MAX_CHANNELS) (Err Capacity) refl)
 
 module _ (t : ℕ) (held : Held) where
   -- with these permissions, which are those of the change as far as they are live
@@ -221,15 +202,16 @@ module _ (slot : ℕ) (rows : Rows) where
   after-check true refused change rest same = same
   after-check false refused change rest same = refl
 
-  changed : (held : Held) (f : Held → Change (Unit {0})) → held_in rows slot ≡ Some held → (ok_or (held_in rows slot) NoAllocation >>= f) ≡ f held
-  changed held f is = ap (λ (o : Option Held). ok_or o NoAllocation >>= f) is
+  alike : (o : Option Held) (f g : Held → Change (Unit {0})) → ((held : Held) → f held ≡ g held) → (ok_or o NoAllocation >>= f) ≡ (ok_or o NoAllocation >>= g)
+  alike None f g same = refl
+  alike (Some held) f g same = same held
 
-  pub permit-changes : (ips : List Addr) (held : Held) → held_in rows slot ≡ Some held → permit_change slot ips rows ≡ (permit_held rows.moment ips held >>= put-back)
-  permit-changes ips held is = changed held _ is ∙ after-check _ refusal.Family _ _ (after-check _ Capacity (Ok (with_permissions (permission_end rows) ips held)) _ refl)
+  pub permit-changes : (ips : List Addr) → (ok_or (held_in rows slot) NoAllocation >>= (λ held. permit_held rows.moment ips held >>= put-back)) ≡ permit_change slot ips rows
+  permit-changes ips = sym (alike (held_in rows slot) _ _ (λ held. after-check _ refusal.Family _ _ (after-check _ Capacity (Ok (with_permissions (permission_end rows) ips held)) _ refl)))
 
-  pub bind-changes : (number : ℕ) (peer : Addr) (held : Held) → held_in rows slot ≡ Some held → bind_change slot number peer rows ≡ (bind_held rows.moment number peer held >>= put-back)
-  bind-changes number peer held is =
-      changed held _ is ∙ after-check _ refusal.Family _ _ (after-check _ Conflict _ _ (after-check _ Capacity _ _ (after-check _ Capacity (Ok (with_binding rows.moment number peer held)) _ refl)))
+  pub bind-changes : (number : ℕ) (peer : Addr) → (ok_or (held_in rows slot) NoAllocation >>= (λ held. bind_held rows.moment number peer held >>= put-back)) ≡ bind_change slot number peer rows
+  bind-changes number peer = sym (alike (held_in rows slot) _ _ (λ held.
+      after-check _ refusal.Family _ _ (after-check _ Conflict _ _ (after-check _ Capacity _ _ (after-check _ Capacity (Ok (with_binding rows.moment number peer held)) _ refl)))))
 
 -- ---- a slot that is read
 
@@ -283,24 +265,17 @@ module _ (last : ℕ) (slots : List (Option Held)) (now : Rows) (shows : ShowsSt
     made new wanted left =
         with_held-stored last slots now shows t later slot new ∙ ap (λ (o : Option Held). record (live_rows t now) { slots = set (live_rows t now).slots slot o }) left
 
-    pub refresh-follows : (lifetime : ℕ) (new : Held) → new ≡ with_end (t + lifetime) held
-        → Follows (refresh_change slot lifetime (live_rows t now)) now (Ok tt) (live_rows t (record { moment = t; slots = set slots slot (Some new) }))
-    refresh-follows lifetime new same =
-        subst (λ (c : Change (Unit {0})). Follows c now (Ok tt) (live_rows t (record { moment = t; slots = set slots slot (Some new) }))) (sym (changed slot (live_rows t now) (live_held t held) _ held_rows))
-        (refl, made new _ (ap (held_at t) same ∙ left-end t held (t + lifetime)))
+    slot-changes : (change : HeldChange) → slot_change slot change (live_rows t now) ≡ (change_held change t (live_held t held) >>= put-back slot (live_rows t now))
+    slot-changes change = ap (λ (o : Option Held). ok_or o NoAllocation >>= (λ held. change_held change t held >>= put-back slot (live_rows t now))) held_rows
 
-    followed : (change : Change (Unit {0})) (inner : Result Held TableError) (new : Held) → change ≡ (inner >>= put-back slot (live_rows t now)) → LeavesHeld inner t held (Ok tt) new
+    after : (change : Change (Unit {0})) (inner : Result Held TableError) (new : Held) → change ≡ (inner >>= put-back slot (live_rows t now)) → LeavesHeld inner t held (Ok tt) new
         → Follows change now (Ok tt) (live_rows t (record { moment = t; slots = set slots slot (Some new) }))
-    followed change (Ok wanted) new made_is left = subst (λ (c : Change (Unit {0})). Follows c now (Ok tt) (live_rows t (record { moment = t; slots = set slots slot (Some new) }))) (sym made_is) (refl, made new wanted left.1)
-    followed change (Err refused) new made_is left = absurd (ok-err refl left.0)
+    after change (Ok wanted) new made_is left = subst (λ (c : Change (Unit {0})). Follows c now (Ok tt) (live_rows t (record { moment = t; slots = set slots slot (Some new) }))) (sym made_is) (refl, made new wanted left.1)
+    after change (Err refused) new made_is left = absurd (ok-err refl left.0)
 
-    pub permit-follows : (ips : List Addr) (new : Held) → LeavesHeld (permit_held t ips (live_held t held)) t held (Ok tt) new
-        → Follows (permit_change slot ips (live_rows t now)) now (Ok tt) (live_rows t (record { moment = t; slots = set slots slot (Some new) }))
-    permit-follows ips new = followed _ _ new (permit-changes slot (live_rows t now) ips (live_held t held) held_rows)
-
-    pub bind-follows : (number : ℕ) (peer : Addr) (new : Held) → LeavesHeld (bind_held t number peer (live_held t held)) t held (Ok tt) new
-        → Follows (bind_change slot number peer (live_rows t now)) now (Ok tt) (live_rows t (record { moment = t; slots = set slots slot (Some new) }))
-    bind-follows number peer new = followed _ _ new (bind-changes slot (live_rows t now) number peer (live_held t held) held_rows)
+    pub change-follows : (change : HeldChange) (new : Held) → LeavesHeld (change_held change t (live_held t held)) t held (Ok tt) new
+        → Follows (slot_change slot change (live_rows t now)) now (Ok tt) (live_rows t (record { moment = t; slots = set slots slot (Some new) }))
+    change-follows change new = after _ _ new (slot-changes change)
 
     -- where the change of what the slot holds is refused, so is that of the rows
     refused : (change : Change (Unit {0})) (inner : Result Held TableError) (why : TableError) (new : Held) → change ≡ (inner >>= put-back slot (live_rows t now)) → LeavesHeld inner t held (Err why) new
@@ -310,13 +285,9 @@ module _ (last : ℕ) (slots : List (Option Held)) (now : Rows) (shows : ShowsSt
         subst (λ (c : Change (Unit {0})). Follows c now (Err why) (live_rows last (record { moment = last; slots = set slots slot (Some new) }))) (sym refused_is)
         (left.0, unchanged (Some new) (ap Some left.1 ∙ sym same))
 
-    pub permit-refused : (ips : List Addr) (why : TableError) (new : Held) → LeavesHeld (permit_held t ips (live_held t held)) t held (Err why) new
-        → Follows (permit_change slot ips (live_rows t now)) now (Err why) (live_rows last (record { moment = last; slots = set slots slot (Some new) }))
-    permit-refused ips why new = refused _ _ why new (permit-changes slot (live_rows t now) ips (live_held t held) held_rows)
-
-    pub bind-refused : (number : ℕ) (peer : Addr) (why : TableError) (new : Held) → LeavesHeld (bind_held t number peer (live_held t held)) t held (Err why) new
-        → Follows (bind_change slot number peer (live_rows t now)) now (Err why) (live_rows last (record { moment = last; slots = set slots slot (Some new) }))
-    bind-refused number peer why new = refused _ _ why new (bind-changes slot (live_rows t now) number peer (live_held t held) held_rows)
+    pub change-refused : (change : HeldChange) (why : TableError) (new : Held) → LeavesHeld (change_held change t (live_held t held)) t held (Err why) new
+        → Follows (slot_change slot change (live_rows t now)) now (Err why) (live_rows last (record { moment = last; slots = set slots slot (Some new) }))
+    change-refused change why new = refused _ _ why new (slot-changes change)
 
 -- ---- the moment of a change
 
@@ -325,20 +296,9 @@ at_moment change now new result t u moment = subst (λ m. Follows (change (live_
 
 -- ---- what is stored stays well formed
 
-module _ (last t : ℕ) (slots : List (Option Held)) (clients : List Client) (are : AreStored last slots clients) (latest : t ≤ LATEST) (slot : ℕ) (within : slot < length slots)
-    (held : Held) (is : stored_at slots slot ≡ Some held) where
-  stored_after : (new : Held) → IsHeldAt slot new → new.allocation.client ≡ held.allocation.client → AreStored t (set slots slot (Some new)) clients
-  stored_after new held_at client = record {
-    rows = set-well_formed t slot (Some new) (record { moment = last; slots = slots }) latest are.rows (λ held same. subst (IsHeldAt slot) (same_Some _ _ same) held_at);
-    listed = held_again slots clients slot new are.listed within (ap client_in is ∙ ap Some (sym client));
-  }
-
-  was : IsHeldAt slot held
-  was = are.rows.held slot held is
-
-  pub stored-end : (end : ℕ) (new : Held) → new ≡ with_end end held → AreStored t (set slots slot (Some new)) clients
-  stored-end end new same = stored_after new (subst (IsHeldAt slot) (sym same) (refreshed-held_at slot end held was)) (ap (λ (h : Held). h.allocation.client) same)
-
-  -- with what is still at the slot, of the same allocation
-  pub stored-held : (new : Held) → ((slot : ℕ) → IsHeldAt slot held → IsHeldAt slot new) → new.allocation ≡ held.allocation → AreStored t (set slots slot (Some new)) clients
-  stored-held new at same = stored_after new (at slot was) (ap (λ (a : Allocation). a.client) same)
+pub stored-held : (last t : ℕ) (slots : List (Option Held)) (clients : List Client) → AreStored last slots clients → t ≤ LATEST → (slot : ℕ) → slot < length slots → (held : Held) → stored_at slots slot ≡ Some held
+    → (new : Held) → ((slot : ℕ) → IsHeldAt slot held → IsHeldAt slot new) → new.allocation.client ≡ held.allocation.client → AreStored t (set slots slot (Some new)) clients
+stored-held last t slots clients are latest slot within held is new at client = record {
+  rows = set-well_formed t slot (Some new) (record { moment = last; slots = slots }) latest are.rows (λ held same. subst (IsHeldAt slot) (same_Some _ _ same) (at slot (are.rows.held slot _ is)));
+  listed = held_again slots clients slot new are.listed within (ap client_in is ∙ ap Some (sym client));
+}

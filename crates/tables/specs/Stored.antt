@@ -1,6 +1,6 @@
 -- Internal. What is stored: slots, the clients that have one in ascending order of their addresses, and the changes of what a
 -- slot holds.
-use Rattle.std.specs.Prelude.{◌≡◌, ◌≢◌, ℕ, ◌+◌, ◌<◌, List, slice_get, Option, None, Some, Result, Ok, Err, All, AllPairs, nat_lt, nat_le, if◌then◌else◌}
+use Rattle.std.specs.Prelude.{◌≡◌, ◌≢◌, ℕ, ◌+◌, ◌<◌, List, slice_get, Option, None, Some, Result, Ok, Err, ok_or, All, AllPairs, nat_lt, nat_le, if◌then◌else◌}
 use Rattle.std.specs.Option.{option_map, option_flatten}
 use Rattle.std.specs.FinMap.{insert, len}
 use Rattle.std.specs.List.{list_all}
@@ -9,17 +9,21 @@ use Rattle.basics.specs.Fallible.{◌>>=◌, check}
 use Rattle.addresses.specs.Addresses.{ip_of, is_of_family}
 use Rattle.addresses.specs.declared.address.Addr.{Addr}
 use Rattle.addresses.specs.AddressOrder.{order_by_parts}
-use Rattle.tables.specs.Channels.{may_bind}
+use Rattle.tables.specs.Changes.{Change, with_held}
+use Rattle.tables.specs.Channels.{IsChannelNumber, may_bind}
+use Rattle.tables.specs.LookUps.{held_in}
 use Rattle.tables.specs.Permissions.{with_all}
-use Rattle.tables.specs.Rows.{held_at}
+use Rattle.tables.specs.Rows.{Rows, held_at}
 use Rattle.tables.specs.WellFormed.{AreWellFormed, IsHeldAt}
 use Rattle.tables.specs.declared.channels.TheConstants.{CHANNEL_LIFETIME, MAX_CHANNELS}
 use Rattle.tables.specs.declared.clients.Client.{Client}
 use Rattle.tables.specs.declared.held.Held.{Held}
+use Rattle.tables.specs.declared.held.HeldChange.{HeldChange}
+use Rattle.tables.specs.declared.held.HeldChange.TheVariants.{Refresh, Permit, Bind}
 use Rattle.tables.specs.declared.permissions.TheConstants.{PERMISSION_LIFETIME, MAX_PERMISSIONS}
 use Rattle.tables.specs.declared.refusal.TableError.{TableError}
 use Rattle.tables.specs.declared.refusal.TableError.TheVariants as refusal
-use Rattle.tables.specs.declared.refusal.TableError.TheVariants.{Capacity, Conflict}
+use Rattle.tables.specs.declared.refusal.TableError.TheVariants.{Capacity, Conflict, NoAllocation}
 
 abbrev pub stored_at : List (Option Held) → ℕ → Option Held
 stored_at slots slot = option_flatten (slice_get slots slot)
@@ -84,3 +88,24 @@ bind_held t number peer held = do
 abbrev pub LeavesHeld : Result Held TableError → ℕ → Held → Result (Unit {0}) TableError → Held → Type 0
 LeavesHeld (Ok made) t old result new = (result ≡ Ok tt) × (held_at t new ≡ held_at t made)
 LeavesHeld (Err refused) t old result new = (result ≡ Err refused) × (new ≡ old)
+
+-- ---- the changes in one definition
+
+-- a channel that is bound has one of the numbers of channels
+abbrev pub HasChannelNumber : HeldChange → Type 0
+HasChannelNumber (Refresh lifetime) = Unit {0}
+HasChannelNumber (Permit ips) = Unit {0}
+HasChannelNumber (Bind number peer) = IsChannelNumber number
+
+-- at a moment
+abbrev pub change_held : HeldChange → ℕ → Held → Result Held TableError
+change_held (Refresh lifetime) t held = Ok (with_end (t + lifetime) held)
+change_held (Permit ips) t held = permit_held t ips.now held
+change_held (Bind number peer) t held = bind_held t number peer held
+
+-- the rows where what a slot holds is changed
+abbrev pub slot_change : ℕ → HeldChange → Rows → Change (Unit {0})
+slot_change slot change rows = do
+  held ← ok_or (held_in rows slot) NoAllocation
+  made ← change_held change rows.moment held
+  Ok (tt, with_held rows slot made)

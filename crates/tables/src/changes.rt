@@ -2,7 +2,7 @@
 
 use crate::allocation::Allocation;
 use crate::channels::Channels;
-use crate::held::Held;
+use crate::held::{Held, HeldChange};
 use crate::permissions::Permissions;
 use crate::refusal::TableError;
 use crate::storage::Tables;
@@ -13,6 +13,7 @@ impl Tables {
     ghost use Rattle.std.specs.Prelude.{◌≡◌, ◌≤◌, ◌<◌, IfOk, IsTrue, length};
     ghost use Rattle.tables.specs.Addresses.{is_ipv4};
     ghost use Rattle.tables.specs.Channels.{IsChannelNumber};
+    ghost use Rattle.tables.specs.Stored.{HasChannelNumber, slot_change};
     ghost use Rattle.tables.specs.Moments.{moment_of};
     ghost use Rattle.tables.specs.Rows.{rows_at};
     ghost use Rattle.tables.specs.Changes.{Follows, allocation_change, refresh_change, permit_change, bind_change};
@@ -66,13 +67,13 @@ impl Tables {
         Ok(slot)
     }
 
-    /// Gives the allocation at a slot a new end, the lifetime, in seconds, after the moment (RFC 8656, section 8). With a
-    /// lifetime of 0 it has ended.
+    /// Makes a change of what a slot holds.
     ///
     /// # Errors
-    /// `NoAllocation` where the slot has none.
-    pub fn refresh(&mut self, now: u64, slot: usize, lifetime: u32) -> Result<(), TableError>
-        ensures follows { Follows (refresh_change slot lifetime (rows_at now self.old)) self.old result self.new }
+    /// `NoAllocation` where the slot has no allocation, and those of [`Held::change`].
+    fn change(&mut self, now: u64, slot: usize, change: HeldChange<'_>) -> Result<(), TableError>
+        requires range { HasChannelNumber change }
+        ensures follows { Follows (slot_change slot change.entry (rows_at now self.old)) self.old result self.new }
         ensures moment { (self.old.moment ≤ self.new.moment) × (self.new.moment ≤ moment_of self.old.moment now) }
         ensures slots { length self.new.slots ≡ length self.old.slots }
     {
@@ -86,9 +87,22 @@ impl Tables {
         if held.allocation.end <= moment {
             return Err(TableError::NoAllocation);
         }
-        held.refresh(moment + u64::from(lifetime));
+        held.change(change, moment)?;
         self.moment = moment;
         Ok(())
+    }
+
+    /// Gives the allocation at a slot a new end, the lifetime, in seconds, after the moment (RFC 8656, section 8). With a
+    /// lifetime of 0 it has ended.
+    ///
+    /// # Errors
+    /// `NoAllocation` where the slot has none.
+    pub fn refresh(&mut self, now: u64, slot: usize, lifetime: u32) -> Result<(), TableError>
+        ensures follows { Follows (refresh_change slot lifetime (rows_at now self.old)) self.old result self.new }
+        ensures moment { (self.old.moment ≤ self.new.moment) × (self.new.moment ≤ moment_of self.old.moment now) }
+        ensures slots { length self.new.slots ≡ length self.old.slots }
+    {
+        self.change(now, slot, HeldChange::Refresh { lifetime })
     }
 
     /// Permits IP addresses at a slot for [`PERMISSION_LIFETIME`], or renews their permissions (RFC 8656, section 9): all of
@@ -104,19 +118,7 @@ impl Tables {
         ensures moment { (self.old.moment ≤ self.new.moment) × (self.new.moment ≤ moment_of self.old.moment now) }
         ensures slots { length self.new.slots ≡ length self.old.slots }
     {
-        let moment = self.moment_at(now);
-        if slot >= self.slots.len() {
-            return Err(TableError::NoAllocation);
-        }
-        let Some(held) = &mut self.slots[slot] else {
-            return Err(TableError::NoAllocation);
-        };
-        if held.allocation.end <= moment {
-            return Err(TableError::NoAllocation);
-        }
-        held.permit(ips, moment)?;
-        self.moment = moment;
-        Ok(())
+        self.change(now, slot, HeldChange::Permit { ips })
     }
 
     /// Binds a channel number to a peer at a slot for [`CHANNEL_LIFETIME`], or renews that, and permits the peer's IP
@@ -135,18 +137,6 @@ impl Tables {
         ensures moment { (self.old.moment ≤ self.new.moment) × (self.new.moment ≤ moment_of self.old.moment now) }
         ensures slots { length self.new.slots ≡ length self.old.slots }
     {
-        let moment = self.moment_at(now);
-        if slot >= self.slots.len() {
-            return Err(TableError::NoAllocation);
-        }
-        let Some(held) = &mut self.slots[slot] else {
-            return Err(TableError::NoAllocation);
-        };
-        if held.allocation.end <= moment {
-            return Err(TableError::NoAllocation);
-        }
-        held.bind(number, peer, moment)?;
-        self.moment = moment;
-        Ok(())
+        self.change(now, slot, HeldChange::Bind { number, peer })
     }
 }

@@ -1,15 +1,13 @@
 //! The channels of an allocation (RFC 8656, section 12).
 
-ghost use Rattle.std.specs.Prelude.{◌≡◌, ◌≤◌, length, filter, nat_lt};
-ghost use Rattle.tables.specs.Search.{has_room};
-ghost use Rattle.tables.specs.declared.channels.TheConstants.{MAX_CHANNELS};
+ghost use Rattle.std.specs.Prelude.{◌≡◌};
 
 use crate::address::is_same;
 use crate::refusal::TableError;
-use crate::search::{Row, place_of, put_at, search};
+use crate::search::{Row, filtered, put, row_of};
 use arrayvec::ArrayVec;
 use attributes::{Addr, law_is_address};
-use basics::steps::Count;
+use basics::steps::{Count, Uncounted};
 use std::cmp::Ordering;
 use std::marker::Model;
 
@@ -103,30 +101,6 @@ impl Model for Channels {
     ghost invariant = { λ c. AreChannelLists c.rows.items c.by_peer.items };
 }
 
-/// Returns the channels that are live at a moment.
-fn live_channels(channels: &[Channel], moment: u64) -> ArrayVec<Channel, MAX_CHANNELS>
-    requires { length channels.now ≤ MAX_CHANNELS }
-    ensures { result.items ≡ filter (λ row. nat_lt moment row.binding.end) channels.now }
-{
-    let mut rows = ArrayVec::new();
-    for row in channels {
-        if moment < row.binding.end {
-            rows.push(*row);
-        }
-    }
-    rows
-}
-
-/// Returns whether there is room for a channel at the place of its key.
-fn has_room(rows: &[Channel], place: &Result<usize, usize>) -> bool
-    ensures { result ≡ has_room MAX_CHANNELS (length rows.now) place.now }
-{
-    match place {
-        Ok(_) => true,
-        Err(_) => rows.len() < MAX_CHANNELS,
-    }
-}
-
 impl Channels {
     ghost use Rattle.std.specs.Prelude.{◌≡◌, ℕ, ◌+◌, ◌<◌, ◌≤◌, OnOk, OnErr, IfErr, IfSome, IsTrue, option_map};
     ghost use Rattle.std.specs.FinMap.{empty, get, insert, len};
@@ -150,33 +124,14 @@ impl Channels {
         ensures binding { result ≡ get self.now number }
         ensures keys { C.count keys.new ≤ C.count keys.old + 7 }
     {
-        let rows = self.rows.as_slice();
-        match search(rows, &number, keys) {
-            Ok(index) => Some(rows[index].binding),
-            Err(_) => None,
-        }
-    }
-
-    /// As [`Channels::binding_of`], for a change, which counts nothing.
-    fn bound_to(&self, number: u16) -> Option<Binding>
-        ensures { result ≡ get self.now number }
-    {
-        let rows = self.rows.as_slice();
-        match place_of(rows, &number) {
-            Ok(index) => Some(rows[index].binding),
-            Err(_) => None,
-        }
+        row_of(&self.rows, &number, keys).map(|row| row.binding)
     }
 
     /// Returns the number that is bound to a peer, if there is one.
     fn number_to(&self, peer: &Addr) -> Option<u16>
         ensures { result ≡ number_to peer.now self.now }
     {
-        let rows = self.by_peer.as_slice();
-        match place_of(rows, peer) {
-            Ok(index) => Some(rows[index].number),
-            Err(_) => None,
-        }
+        row_of(&self.by_peer, peer, &mut Uncounted).map(|row| row.number)
     }
 
     /// Returns the number that is bound to a peer by a channel that is live at a moment, if there is one.
@@ -185,17 +140,9 @@ impl Channels {
         ensures range { IfSome result IsChannelNumber }
         ensures keys { C.count keys.new ≤ C.count keys.old + 7 }
     {
-        let rows = self.by_peer.as_slice();
-        let index = match search(rows, peer, keys) {
-            Ok(index) => index,
-            Err(_) => return None,
-        };
-        let row = rows[index];
-        if moment < row.binding.end {
-            Some(row.number)
-        } else {
-            None
-        }
+        row_of(&self.by_peer, peer, keys)
+            .filter(|row| moment < row.binding.end)
+            .map(|row| row.number)
     }
 
     /// Returns the channels, in the order of their numbers.
@@ -211,8 +158,8 @@ impl Channels {
         ensures { result ≡ channels_at moment self.now }
     {
         Channels {
-            rows: live_channels(self.rows.as_slice(), moment),
-            by_peer: live_channels(self.by_peer.as_slice(), moment),
+            rows: filtered(&self.rows, |row| moment < row.binding.end),
+            by_peer: filtered(&self.by_peer, |row| moment < row.binding.end),
         }
     }
 
@@ -220,7 +167,7 @@ impl Channels {
     pub(crate) fn may_bind(&self, number: u16, peer: &Addr) -> bool
         ensures { result ≡ may_bind self.now number peer.now }
     {
-        let is_own = match self.bound_to(number) {
+        let is_own = match self.binding_of(number, &mut Uncounted) {
             Some(binding) => is_same(peer, &binding.peer),
             None => true,
         };
@@ -249,13 +196,8 @@ impl Channels {
         ensures unchanged { OnErr result (self.new ≡ self.old) }
     {
         let channel = Channel { number, binding };
-        let place = place_of(self.rows.as_slice(), &number);
-        if !has_room(self.rows.as_slice(), &place) {
-            return Err(TableError::Capacity);
-        }
-        let place_by_peer = place_of(self.by_peer.as_slice(), &binding.peer);
-        put_at(&mut self.rows, place, channel);
-        put_at(&mut self.by_peer, place_by_peer, channel);
+        put(&mut self.rows, &number, channel)?;
+        let _ = put(&mut self.by_peer, &binding.peer, channel);
         Ok(())
     }
 }

@@ -1,11 +1,10 @@
 //! The clients that have a slot.
 
-ghost use Rattle.std.specs.Prelude.{◌≡◌, ◌<◌, ◌≤◌, All, None, filter, if◌then◌else◌, is_some, length, map, slice_index_or, slice_set};
+ghost use Rattle.std.specs.Prelude.{◌≡◌, ◌<◌, None, filter, if◌then◌else◌, is_some, length, map, slice_index_or, slice_set};
 ghost use Rattle.tables.specs.Stored.{left_at, stored_at};
-ghost use Rattle.tables.specs.declared.storage.TheConstants.{MAX_ALLOCATIONS};
 
 use crate::held::Held;
-use crate::search::Row;
+use crate::search::{Row, filtered};
 use crate::storage::MAX_ALLOCATIONS;
 use arrayvec::ArrayVec;
 use attributes::{Addr, law_is_address};
@@ -71,28 +70,19 @@ pub(crate) fn sweep(slots: &mut Vec<Option<Held>>, moment: u64)
     }
 }
 
-/// Returns whether a slot holds something.
+/// Returns whether a slot holds something. A slot that isn't there holds nothing.
 fn is_taken(slots: &[Option<Held>], slot: usize) -> bool
-    requires { slot < length slots.now }
     ensures { result ≡ is_some (stored_at slots.now slot) }
 {
-    slots[slot].is_some()
+    slots.get(slot).is_some_and(|slot| slot.is_some())
 }
 
 /// Returns the clients whose slots hold something.
 pub(crate) fn with_slots(
-    clients: &[Client],
+    clients: &ArrayVec<Client, MAX_ALLOCATIONS>,
     slots: &[Option<Held>],
 ) -> ArrayVec<Client, MAX_ALLOCATIONS>
-    requires inside { All (λ row. row.slot < length slots.now) clients.now }
-    requires few { length clients.now ≤ MAX_ALLOCATIONS }
-    ensures { result.items ≡ filter (λ row. is_some (stored_at slots.now row.slot)) clients.now }
+    ensures { result.items ≡ filter (λ row. is_some (stored_at slots.now row.slot)) clients.now.items }
 {
-    let mut rows = ArrayVec::new();
-    for row in clients {
-        if is_taken(slots, row.slot) {
-            rows.push(*row);
-        }
-    }
-    rows
+    filtered(clients, |row| is_taken(slots, row.slot))
 }

@@ -17,20 +17,53 @@ pub(crate) struct Held {
     pub(crate) channels: Channels,
 }
 
+/// A change of what a slot holds, whose allocation is live.
+#[derive(Clone, Copy)]
+pub(crate) enum HeldChange<'a> {
+    /// The allocation ends a lifetime, in seconds, after the moment.
+    Refresh { lifetime: u32 },
+    /// IP addresses are permitted.
+    Permit { ips: &'a [Addr] },
+    /// A channel number is bound to a peer.
+    Bind { number: u16, peer: Addr },
+}
+
 impl Held {
     ghost use Rattle.std.specs.Prelude.{◌≡◌, ◌≤◌, ℕ, IsTrue, IfErr, OnErr, OnOk, Err};
     ghost use Rattle.std.specs.FinMap.{len};
     ghost use Rattle.addresses.specs.Addresses.{IsAddress, is_of_family};
     ghost use Rattle.tables.specs.Channels.{IsChannelNumber, channels_at, may_bind};
     ghost use Rattle.tables.specs.laws.Row.{live_held};
-    ghost use Rattle.tables.specs.Stored.{LeavesHeld, permit_held, bind_held, with_end, with_binding};
+    ghost use Rattle.tables.specs.Stored.{LeavesHeld, HasChannelNumber, change_held, permit_held, bind_held, with_end, with_binding};
     ghost use Rattle.tables.specs.WellFormed.{IsHeldAt};
     ghost use Rattle.tables.specs.declared.channels.TheConstants.{MAX_CHANNELS};
     ghost use Rattle.tables.specs.declared.moment.TheConstants.{LATEST};
     ghost use Rattle.tables.specs.declared.permissions.TheConstants.{MAX_PERMISSIONS};
 
+    /// Makes a change at a moment.
+    ///
+    /// # Errors
+    /// Those of [`Held::permit`] and [`Held::bind`]. Nothing is changed then.
+    pub(crate) fn change(&mut self, change: HeldChange<'_>, moment: u64) -> Result<(), TableError>
+        requires range { HasChannelNumber change }
+        requires latest { moment ≤ LATEST }
+        ensures follows { LeavesHeld (change_held change.entry moment (live_held moment self.old)) moment self.old
+            result self.new }
+        ensures held_at { (slot : ℕ) → IsHeldAt slot self.old → IsHeldAt slot self.new }
+        ensures client { self.new.allocation.client ≡ self.old.allocation.client }
+    {
+        match change {
+            HeldChange::Refresh { lifetime } => {
+                self.refresh(moment + u64::from(lifetime));
+                Ok(())
+            }
+            HeldChange::Permit { ips } => self.permit(ips, moment),
+            HeldChange::Bind { number, peer } => self.bind(number, peer, moment),
+        }
+    }
+
     /// Gives the allocation a new end.
-    pub(crate) fn refresh(&mut self, end: u64)
+    fn refresh(&mut self, end: u64)
         ensures { self.new ≡ with_end end self.old }
     {
         self.allocation.end = end;
@@ -53,7 +86,7 @@ impl Held {
     /// # Errors
     /// `Family` where an address is not of the allocation's family; `Capacity` where there would be more than 64 permissions.
     /// Nothing is changed then.
-    pub(crate) fn permit(&mut self, ips: &[Addr], moment: u64) -> Result<(), TableError>
+    fn permit(&mut self, ips: &[Addr], moment: u64) -> Result<(), TableError>
         requires latest { moment ≤ LATEST }
         ensures follows { LeavesHeld (permit_held moment ips.now (live_held moment self.old)) moment self.old result self.new }
         ensures held_at { (slot : ℕ) → IsHeldAt slot self.old → IsHeldAt slot self.new }
@@ -79,7 +112,7 @@ impl Held {
     /// # Errors
     /// `Family` where the peer is not of the allocation's family; `Conflict` where the number is bound to another peer, or the
     /// peer to another number; `Capacity` where there would be more than 64 channels or permissions. Nothing is changed then.
-    pub(crate) fn bind(&mut self, number: u16, peer: Addr, moment: u64) -> Result<(), TableError>
+    fn bind(&mut self, number: u16, peer: Addr, moment: u64) -> Result<(), TableError>
         requires range { IsChannelNumber number }
         requires latest { moment ≤ LATEST }
         ensures follows { LeavesHeld (bind_held moment number peer (live_held moment self.old)) moment self.old result self.new }

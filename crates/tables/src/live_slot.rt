@@ -71,12 +71,12 @@ impl<'a> LiveSlot<'a> {
         ensures peer { result ≡ bound_peer number self.now }
         ensures keys { C.count keys.new ≤ C.count keys.old + 7 }
     {
-        let binding = self.held.channels.binding_of(number, keys)?;
-        if self.moment < binding.end {
-            Some(binding.peer)
-        } else {
-            None
-        }
+        let moment = self.moment;
+        self.held
+            .channels
+            .binding_of(number, keys)
+            .filter(|binding| moment < binding.end)
+            .map(|binding| binding.peer)
     }
 
     /// Returns the channel that is bound to a peer: a number from [`FIRST_CHANNEL`] to [`LAST_CHANNEL`]. Of the slot's peers at most
@@ -98,10 +98,11 @@ impl<'a> LiveSlot<'a> {
         ensures permitted { result ≡ is_some (permission_of ip self.now) }
         ensures keys { C.count keys.new ≤ C.count keys.old + 7 }
     {
-        match self.held.permissions.end_of(&ip, keys) {
-            Some(end) => self.moment < end,
-            None => false,
-        }
+        let moment = self.moment;
+        self.held
+            .permissions
+            .end_of(&ip, keys)
+            .is_some_and(|end| moment < end)
     }
 
     /// Returns the permissions, in the order of their IP addresses.

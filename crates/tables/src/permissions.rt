@@ -1,10 +1,10 @@
 //! The permissions of an allocation (RFC 8656, section 9).
 
 use crate::refusal::TableError;
-use crate::search::{Row, place_of, search};
+use crate::search::{Row, filtered, has_room, put, row_of};
 use arrayvec::ArrayVec;
 use attributes::Addr;
-use basics::steps::Count;
+use basics::steps::{Count, Uncounted};
 use std::cmp::Ordering;
 use std::marker::Model;
 
@@ -93,11 +93,7 @@ impl Permissions {
         ensures end { result ≡ get self.now (ip_of ip.now) }
         ensures keys { C.count keys.new ≤ C.count keys.old + 7 }
     {
-        let rows = self.rows.as_slice();
-        match search(rows, ip, keys) {
-            Ok(index) => Some(rows[index].end),
-            Err(_) => None,
-        }
+        row_of(&self.rows, ip, keys).map(|row| row.end)
     }
 
     /// Returns the permissions, in the order of their IP addresses.
@@ -113,12 +109,7 @@ impl Permissions {
         ensures left { result ≡ permissions_at moment self.now }
         ensures few { len result ≤ MAX_PERMISSIONS }
     {
-        let mut rows = ArrayVec::new();
-        for row in self.rows.as_slice() {
-            if moment < row.end {
-                rows.push(*row);
-            }
-        }
+        let rows = filtered(&self.rows, |row| moment < row.end);
         Permissions { rows }
     }
 
@@ -129,7 +120,7 @@ impl Permissions {
     {
         let mut count = self.rows.len();
         for ip in ips {
-            if place_of(self.rows.as_slice(), ip).is_err() {
+            if row_of(&self.rows, ip, &mut Uncounted).is_none() {
                 count += 1;
             }
         }
@@ -140,10 +131,7 @@ impl Permissions {
     pub(crate) fn has_room_for(&self, ip: &Addr) -> bool
         ensures { (end : ℕ) → result ≡ nat_le (len (insert self.now (ip_of ip.now) end)) MAX_PERMISSIONS }
     {
-        match place_of(self.rows.as_slice(), ip) {
-            Ok(_) => true,
-            Err(_) => self.rows.len() < MAX_PERMISSIONS,
-        }
+        has_room(&self.rows, ip)
     }
 
     /// Adds a permission, or gives it a new end where there is one.
@@ -157,18 +145,7 @@ impl Permissions {
         ensures full { OnErr result (MAX_PERMISSIONS < len (insert self.old (ip_of ip) end)) }
         ensures unchanged { OnErr result (self.new ≡ self.old) }
     {
-        let index = match place_of(self.rows.as_slice(), &ip) {
-            Ok(index) => {
-                self.rows[index].end = end;
-                return Ok(());
-            }
-            Err(index) => index,
-        };
-        if self.rows.is_full() {
-            return Err(TableError::Capacity);
-        }
-        self.rows.insert(index, Permission { ip, end });
-        Ok(())
+        put(&mut self.rows, &ip, Permission { ip, end })
     }
 
     /// Adds permissions for IP addresses, or gives them a new end.

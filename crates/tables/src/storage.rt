@@ -6,7 +6,7 @@ use crate::clients::{Client, sweep, with_slots};
 use crate::held::Held;
 use crate::live_slot::LiveSlot;
 use crate::moment::moment_of;
-use crate::search::{place_of, put_at, search};
+use crate::search::{put, row_of};
 use crate::users::{NewUsers, replace_each_user};
 use arrayvec::ArrayVec;
 use attributes::Addr;
@@ -135,11 +135,8 @@ impl Tables {
         ensures inside { IfSome result (λ l. l.allocation.slot < length self.now.slots) }
         ensures keys { C.count keys.new ≤ C.count keys.old + 9 }
     {
-        let clients = self.clients.as_slice();
-        match search(clients, client, keys) {
-            Ok(index) => self.live(clients[index].slot, moment),
-            Err(_) => None,
-        }
+        let client = row_of(&self.clients, client, keys)?;
+        self.live(client.slot, moment)
     }
 
     /// Returns the lowest slot that holds nothing at a moment.
@@ -208,9 +205,8 @@ impl Tables {
     {
         let address = held.allocation.client;
         sweep(&mut self.slots, moment);
-        let mut clients = with_slots(self.clients.as_slice(), &self.slots);
-        let place = place_of(clients.as_slice(), &address);
-        put_at(&mut clients, place, Client { address, slot });
+        let mut clients = with_slots(&self.clients, &self.slots);
+        let _ = put(&mut clients, &address, Client { address, slot });
         self.moment = moment;
         self.slots[slot] = Some(held);
         self.clients = clients;
@@ -237,6 +233,6 @@ impl Tables {
         ensures { self.new ≡ rows_for (user_after users.entry) self.old }
     {
         replace_each_user(&mut self.slots, users);
-        self.clients = with_slots(self.clients.as_slice(), &self.slots);
+        self.clients = with_slots(&self.clients, &self.slots);
     }
 }

@@ -1,38 +1,23 @@
-use Rattle.std.proofs.Common.{◌<◌, ◌≤◌, Some, get_or, ap, ◌∙◌, sym, subst, arith}
-use Rattle.tables.specs.Channels.{channels_at, number_to}
-use Rattle.tables.specs.Search.{AreAscending, IsFoundAt, IsMissingAt}
-use Rattle.tables.proofs.ChannelRows.{by_peer, blank, searchable_by_peer, is_to-missing, number_at-none, number_at-counts, number_at-ended}
+use Rattle.std.proofs.Common.{◌≡◌, IfSome, option_map, ap, ◌∙◌, sym, subst, arith, rules}
+use Rattle.tables.specs.Channels.{IsChannelNumber, channels_at, number_to}
+use Rattle.tables.specs.Retained.{value_if}
+use Rattle.tables.proofs.ChannelRows.{is_live_row, searchable_by_peer, number_at-channels, number_at-range}
 use Rattle.tables.proofs.channels.Channels.number_at.Goals as goal
 
-pub search-requires : goal.search-requires
-search-requires g c = subst (AreAscending (by_peer c.args.peer.now)) (sym c.as_slice-rows.ensures.value) (searchable_by_peer c.args.peer.now c.self.inside.by_peer.items c.self.invariant.peers)
+pub row_of-requires : goal.row_of-requires
+row_of-requires g c = (omega arith, searchable_by_peer c.args.peer.now c.self.inside.by_peer.items c.self.invariant.peers)
 
-pub returns-in-Err-clause-number : goal.returns-in-Err-clause-number
-returns-in-Err-clause-number g c =
-    let peer = c.args.peer.now in
-    let place = subst (λ s. IsMissingAt (by_peer peer) s c.in-Err.field-0) c.as_slice-rows.ensures.value c.in-Err.ensures.place in
-    sym (ap (λ m. number_to peer (channels_at c.args.moment m)) (sym (c.self.invariant.same ∙ c.self.view_is)) ∙ number_at-none c.self.inside.by_peer.items c.args.moment peer (is_to-missing peer c.self.inside.by_peer.items c.in-Err.field-0 place))
+pub returns-clause-number : goal.returns-clause-number
+returns-clause-number g c =
+    let live : c.filter.result ≡ value_if (is_live_row c.args.moment) c.row_of.result = search rules in
+    let number : c.map.result ≡ option_map (λ row. row.number) c.filter.result = search rules in
+    number ∙ ap (option_map (λ row. row.number)) (live ∙ ap (value_if (is_live_row c.args.moment)) c.row_of.ensures.row)
+    ∙ sym (number_at-channels c.self.inside.rows.items c.self.inside.by_peer.items c.self.invariant c.args.moment c.args.peer.now) ∙ ap (λ m. number_to c.args.peer.now (channels_at c.args.moment m)) c.self.view_is
 
-pub returns-then-moment-row-clause-number : goal.returns-then-moment-row-clause-number
-returns-then-moment-row-clause-number g c =
-    let peer = c.args.peer.now in
-    let place = subst (λ s. IsFoundAt (by_peer peer) s c.in-Ok.index) c.as_slice-rows.ensures.value c.in-Ok.ensures.place in
-    let counts = subst (λ rows. c.args.moment < (get_or rows c.in-Ok.index blank).binding.end) c.as_slice-rows.ensures.value c.if-moment-row.true in
-    ap (λ rows. Some (get_or rows c.in-Ok.index blank).number) c.as_slice-rows.ensures.value
-    ∙ sym (ap (λ m. number_to peer (channels_at c.args.moment m)) (sym (c.self.invariant.same ∙ c.self.view_is)) ∙ number_at-counts c.self.inside.by_peer.items c.self.invariant.channels_by_peer c.args.moment peer c.in-Ok.index blank place counts)
+pub returns-clause-range : goal.returns-clause-range
+returns-clause-range g c =
+    let number = returns-clause-number g c ∙ ap (λ m. number_to c.args.peer.now (channels_at c.args.moment m)) (sym c.self.view_is) in
+    subst (λ n. IfSome n IsChannelNumber) (sym number) (number_at-range c.self.inside.rows.items c.self.inside.by_peer.items c.self.invariant c.args.moment c.args.peer.now)
 
-pub returns-else-moment-row-clause-number : goal.returns-else-moment-row-clause-number
-returns-else-moment-row-clause-number g c =
-    let peer = c.args.peer.now in
-    let place = subst (λ s. IsFoundAt (by_peer peer) s c.in-Ok.index) c.as_slice-rows.ensures.value c.in-Ok.ensures.place in
-    let ended = subst (λ rows. (get_or rows c.in-Ok.index blank).binding.end ≤ c.args.moment) c.as_slice-rows.ensures.value c.if-moment-row.false in
-    sym (ap (λ m. number_to peer (channels_at c.args.moment m)) (sym (c.self.invariant.same ∙ c.self.view_is)) ∙ number_at-ended c.self.inside.by_peer.items c.self.invariant.channels_by_peer c.args.moment peer c.in-Ok.index blank place ended)
-
-pub returns-in-Err-clause-keys : goal.returns-in-Err-clause-keys
-returns-in-Err-clause-keys g c = c.search.ensures.count 7 (omega (arith, c.as_slice-rows.ensures.fits))
-
-pub returns-then-moment-row-clause-keys : goal.returns-then-moment-row-clause-keys
-returns-then-moment-row-clause-keys g c = c.search.ensures.count 7 (omega (arith, c.as_slice-rows.ensures.fits))
-
-pub returns-else-moment-row-clause-keys : goal.returns-else-moment-row-clause-keys
-returns-else-moment-row-clause-keys g c = c.search.ensures.count 7 (omega (arith, c.as_slice-rows.ensures.fits))
+pub returns-clause-keys : goal.returns-clause-keys
+returns-clause-keys g c = c.row_of.ensures.count 7 (omega arith)

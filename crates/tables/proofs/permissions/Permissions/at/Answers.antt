@@ -1,36 +1,22 @@
-use Rattle.std.proofs.Common.{◌≡◌, nat_lt, length, filter, take, ap, ◌∙◌, sym, subst, arith, ◌≤◌}
-use Rattle.std.proofs.lemmas.Grind.{common_steps}
-use Rattle.std.specs.FinMap.{len}
-use Rattle.std.proofs.lemmas.List.{take_all, length-take}
+use Rattle.std.proofs.Common.{nat_lt, ap, ◌∙◌, sym, subst, arith, rules}
 use Rattle.tables.specs.Permissions.{permissions_at}
 use Rattle.tables.specs.RowLists.{permissions_of}
 use Rattle.tables.specs.SortedRows.{AreSortedPermissions}
-use Rattle.tables.specs.declared.permissions.TheConstants.{MAX_PERMISSIONS}
-use Rattle.tables.proofs.Lists.{length-filter-le}
-use Rattle.tables.proofs.PermissionRows.{filtered_are, filtered, len-filtered}
+use Rattle.tables.proofs.PermissionRows.{len-permissions, sorted-filtered, permissions_of-filtered}
 use Rattle.tables.proofs.permissions.Permissions.at.Goals as goal
-use Rattle.tables.proofs.permissions.Permissions.at.Goals.{After-loop-row}
-
-left : (c : After-loop-row) → c.loop-row.rows.items ≡ filter (λ row. nat_lt c.args.moment row.end) c.self.inside.rows.items
-left c =
-    c.loop-row.invariant ∙ ap (filter (λ row. nat_lt c.args.moment row.end)) (take_all c.loop-row.row-index c.as_slice-row-items.result.now c.loop-row-test.false ∙ c.as_slice-row-items.ensures.value)
-
-pub push-requires : goal.push-requires
-push-requires c =
-    let shown = c.as_slice-row-items.result.now in
-    omega (arith, ap length c.loop-row.invariant, length-filter-le (λ row. nat_lt c.args.moment row.end) (take c.loop-row.row-index shown), length-take c.loop-row.row-index shown)
 
 pub invariant_of-result : goal.invariant_of-result
-invariant_of-result c = subst AreSortedPermissions (sym (left c)) (filtered_are c.args.moment c.self.inside.rows.items c.self.invariant)
+invariant_of-result c =
+    let left = c.filtered-rows.ensures.rows (λ row. nat_lt c.args.moment row.end) (λ row is k. search rules) in
+    subst AreSortedPermissions (sym left) (sorted-filtered c.self.inside.rows.items c.self.invariant c.args.moment)
 
 pub returns-clause-left : goal.returns-clause-left
 returns-clause-left c =
-    ap permissions_of (left c) ∙ filtered c.args.moment c.self.inside.rows.items c.self.invariant ∙ ap (permissions_at c.args.moment) c.self.view_is
+    let left = c.filtered-rows.ensures.rows (λ row. nat_lt c.args.moment row.end) (λ row is k. search rules) in
+    ap permissions_of left ∙ permissions_of-filtered c.self.inside.rows.items c.self.invariant c.args.moment ∙ ap (permissions_at c.args.moment) c.self.view_is
 
 pub returns-clause-few : goal.returns-clause-few
 returns-clause-few c =
-    let few : length c.self.inside.rows.items ≤ MAX_PERMISSIONS = omega (arith, ap length c.as_slice-row-items.ensures.value, c.as_slice-row-items.ensures.fits) in
-    subst (λ rows. len (permissions_of rows) ≤ MAX_PERMISSIONS) (sym (left c)) (len-filtered c.args.moment MAX_PERMISSIONS c.self.inside.rows.items c.self.invariant few)
-
-pub loop-row-preserved : goal.loop-row-preserved
-loop-row-preserved c = grind (arith, common_steps)
+    let left = c.filtered-rows.ensures.rows (λ row. nat_lt c.args.moment row.end) (λ row is k. search rules) in
+    let sorted = subst AreSortedPermissions (sym left) (sorted-filtered c.self.inside.rows.items c.self.invariant c.args.moment) in
+    omega (arith, len-permissions c.filtered-rows.result.items sorted, c.filtered-rows.ensures.few)

@@ -1,4 +1,4 @@
-use Rattle.std.proofs.Common.{◌≡◌, ◌+◌, ◌≤◌, true, List, [], get_or, take, is_some, nat_le, ap, ◌∙◌, sym, subst, arith}
+use Rattle.std.proofs.Common.{◌≡◌, ◌+◌, ◌≤◌, true, List, [], get_or, take, is_some, not, nat_le, ap, ◌∙◌, sym, subst, arith}
 use Rattle.std.proofs.lemmas.Bool.{OnTrue_from, leb-true}
 use Rattle.std.proofs.lemmas.List.{take_all}
 use Rattle.std.specs.FinMap.{get, len}
@@ -7,10 +7,10 @@ use Rattle.addresses.specs.declared.address.Addr.{Addr}
 use Rattle.addresses.specs.declared.address.Addr.TheVariants.{V4}
 use Rattle.tables.specs.Permissions.{with_all}
 use Rattle.tables.specs.declared.permissions.TheConstants.{MAX_PERMISSIONS}
-use Rattle.tables.specs.Search.{AreAscending, IsPlace}
-use Rattle.tables.proofs.PermissionRows.{by_ip, searchable_by, len-permissions, has_row, len-one_more, len-one_again}
+use Rattle.tables.specs.Search.{row_of}
+use Rattle.tables.proofs.PermissionRows.{by_ip, searchable_by, len-permissions, get-permission, is_some-map, len-one_more, len-one_again}
 use Rattle.tables.proofs.permissions.Permissions.have_room.Goals as goal
-use Rattle.tables.proofs.permissions.Permissions.have_room.Goals.{then-is_err, else-is_err}
+use Rattle.tables.proofs.permissions.Permissions.have_room.Goals.{then-is_none, else-is_none}
 
 pub loop-ip-init : goal.loop-ip-init
 loop-ip-init c =
@@ -20,10 +20,8 @@ loop-ip-init c =
       few = omega (arith, c.len-count.ensures.value, c.len-count.ensures.fits);
     }
 
-pub place_of-requires : goal.place_of-requires
-place_of-requires c =
-    let ip = ip_of (get_or c.args.ips.now c.loop-ip.ip-index (V4 [] 0)) in
-    subst (AreAscending (by_ip ip)) (sym c.as_slice.ensures.value) (searchable_by ip c.self.inside.rows.items c.self.invariant)
+pub row_of-requires : goal.row_of-requires
+row_of-requires c = (omega arith, searchable_by c.self.inside.rows.items c.self.invariant (ip_of (get_or c.args.ips.now c.loop-ip.ip-index (V4 [] 0))))
 
 pub loop-ip-preserved : goal.loop-ip-preserved
 loop-ip-preserved c =
@@ -31,15 +29,15 @@ loop-ip-preserved c =
     let ips = c.args.ips.now in
     let rows = c.self.inside.rows.items in
     let now = c.args.self.now in
-    elim c.if-is_err.branch [
-      | then-is_err w ↦ record {
+    let ip = ip_of (get_or ips i (V4 [] 0)) in
+    elim c.if-is_none.branch [
+      | then-is_none w ↦ record {
         enough = λ end. subst (λ n. len (with_all now (take (i + 1) ips) end) ≤ n) (sym w.count-is) (len-one_more now ips i end (V4 [] 0) c.loop-ip-test.true c.loop-ip.count (c.loop-ip.invariant.enough end));
         few = omega (arith, w.count-is, c.loop-ip.invariant.few);
       }
-      | else-is_err w ↦
-          let ip = ip_of (get_or ips i (V4 [] 0)) in
-          let at = subst (λ s. IsPlace (by_ip ip) s c.place_of.result) c.as_slice.ensures.value c.place_of.ensures in
-          let there : is_some (get now ip) ≡ true = ap (λ m. is_some (get m ip)) (sym c.self.view_is) ∙ has_row ip rows c.place_of.result c.self.invariant at (sym c.is_err.ensures.value ∙ w.if-is_err.false) in
+      | else-is_none w ↦
+          let there : is_some (get now ip) ≡ true =
+          ap (λ m. is_some (get m ip)) (sym c.self.view_is) ∙ ap is_some (get-permission ip rows) ∙ is_some-map (λ row. row.end) (row_of (by_ip ip) rows) ∙ ap is_some (sym c.row_of.ensures.row) ∙ c.is_none.ensures ∙ ap not w.if-is_none.false in
           record {
             enough = λ end. subst (λ n. len (with_all now (take (i + 1) ips) end) ≤ n) (sym w.count-is) (len-one_again now ips i end (V4 [] 0) c.loop-ip-test.true c.loop-ip.count there (c.loop-ip.invariant.enough end));
             few = omega (arith, w.count-is, c.loop-ip.invariant.few);

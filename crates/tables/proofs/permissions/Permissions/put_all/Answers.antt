@@ -4,7 +4,8 @@ use Rattle.std.proofs.lemmas.List.{at_drop_more}
 use Rattle.addresses.specs.Addresses.{ip_of}
 use Rattle.addresses.specs.declared.address.Addr.TheVariants.{V4}
 use Rattle.tables.specs.Permissions.{with_all}
-use Rattle.tables.proofs.PermissionRows.{len-with_all-ge, on_err}
+use Rattle.tables.proofs.Lists.{on_err}
+use Rattle.tables.proofs.PermissionRows.{len-with_all-ge}
 use Rattle.tables.proofs.permissions.Permissions.put_all.Goals as goal
 
 pub returns-in_err-put-clause-full : goal.returns-in_err-put-clause-full

@@ -4,7 +4,7 @@ use Rattle.tables.specs.Stored.{AreStored}
 use Rattle.tables.specs.Users.{held_of_user, rows_for}
 use Rattle.tables.specs.NewUsers.{user_after}
 use Rattle.tables.specs.declared.held.Held.{Held}
-use Rattle.tables.proofs.ClientRows.{kept_shown}
+use Rattle.tables.proofs.ClientRows.{with_slots_in}
 use Rattle.tables.proofs.UserRows.{live-users, stored-users}
 use Rattle.tables.proofs.storage.Tables.replace_each.Goals as goal
 
@@ -15,7 +15,7 @@ invariant_of-self c =
     let clients = c.self.inside.clients.items in
     let user = user_after c.args.users in
     let left : List (Option Held) = map (option_and_then (held_of_user user)) slots in
-    let kept = kept_shown left clients c.deref.result.now c.as_slice.result.now c.with_slots-self-inside.result.items c.with_slots-self-inside.ensures (c.deref.ensures.value ∙ c.replace_each_user.ensures) c.as_slice.ensures.value in
+    let kept = c.with_slots-self-inside.ensures ∙ ap (with_slots_in clients) (c.deref.ensures.value ∙ c.replace_each_user.ensures) in
     subst (λ s. AreStored t s c.with_slots-self-inside.result.items) (sym c.replace_each_user.ensures)
     (subst (AreStored t left) (sym kept) (stored-users user t slots clients c.self.invariant))
 
