@@ -1,6 +1,7 @@
 //! Checks the rows of a file, and counts them by section.
 
 use crate::agreement::{Seeded, check_agreement, datagrams};
+use crate::command_lines::{parsed, refused};
 use crate::expansion::{Named, expanded};
 use crate::explanations::{cost, explained};
 use crate::frames::Frames;
@@ -109,6 +110,8 @@ impl Checks {
             Kind::Order => ordered(alloc, row),
             Kind::Explain => explained(alloc, row),
             Kind::Cost => cost(alloc, row),
+            Kind::Parsed => parsed(alloc, row),
+            Kind::Refused => refused(alloc, row),
         }
     }
 

@@ -24,10 +24,12 @@ pub enum Kind {
     Order,
     Explain,
     Cost,
+    Parsed,
+    Refused,
 }
 
 /// The word of each kind.
-static WORDS: [(&str, Kind); 21] = [
+static WORDS: [(&str, Kind); 23] = [
     ("assemble", Kind::Assemble),
     ("reassemble", Kind::Reassemble),
     ("decode", Kind::Decode),
@@ -49,6 +51,8 @@ static WORDS: [(&str, Kind); 21] = [
     ("order", Kind::Order),
     ("explain", Kind::Explain),
     ("cost", Kind::Cost),
+    ("parsed", Kind::Parsed),
+    ("refused", Kind::Refused),
 ];
 
 impl Kind {

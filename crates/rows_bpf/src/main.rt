@@ -1,9 +1,10 @@
 //! Reads rows on standard input, one a line, each with what it expects, and compares that with what the crates that work on
-//! programs answer.
+//! programs and on command lines answer.
 #![tactic(auto)]
 
 mod agreement;
 mod checking;
+mod command_lines;
 mod expansion;
 mod explanations;
 mod frames;
