@@ -32,7 +32,7 @@ use tables::{Tables, Uncounted, is_ipv4};
 
 /// A message of a client at a moment.
 #[derive(Clone, Copy)]
-struct Arrival<'a> {
+struct ClientMessage<'a> {
     /// The client that sent the message.
     client: Addr,
     /// The message.
@@ -64,7 +64,7 @@ fn serve(
     config: &Config,
     request: TurnRequest,
     user: usize,
-    arrival: &Arrival<'_>,
+    arrival: &ClientMessage<'_>,
 ) -> Result<Grant, ErrorCode>
     requires ipv4 { IsTrue (is_ipv4 arrival.now.client) }
     ensures gives { Gives (decision_if_understood request config.now arrival.now.client user arrival.now.message.now
@@ -128,7 +128,7 @@ fn check_under(
     config: &Config,
     secret: &Option<Vec<u8>>,
     held: Option<usize>,
-    arrival: &Arrival<'_>,
+    arrival: &ClientMessage<'_>,
 ) -> Result<Authenticated, AuthError>
     ensures { result_map_both account_of (λ e. e) result
         ≡ check_under config.now secret.now arrival.now.moment held arrival.now.message.now }
@@ -153,7 +153,7 @@ fn check_under(
 fn check_under_each(
     config: &Config,
     held: Option<usize>,
-    arrival: &Arrival<'_>,
+    arrival: &ClientMessage<'_>,
 ) -> Result<Authenticated, AuthError>
     ensures { result_map_both account_of (λ e. e) result
         ≡ check_under_each config.now arrival.now.moment held arrival.now.message.now }
@@ -183,7 +183,7 @@ fn is_revoked(config: &Config, message: &Message<'_>) -> bool
 fn check_credentials(
     tables: &Tables,
     config: &Config,
-    arrival: &Arrival<'_>,
+    arrival: &ClientMessage<'_>,
 ) -> Result<Authenticated, AuthError>
     ensures { result_map_both account_of (λ e. e) result ≡ check_of config.now arrival.now.moment arrival.now.client
         arrival.now.message.now tables.now }
@@ -201,7 +201,7 @@ fn answer_user(
     tables: &mut Tables,
     config: &Config,
     request: TurnRequest,
-    arrival: &Arrival<'_>,
+    arrival: &ClientMessage<'_>,
     out: &mut [u8],
 ) -> Written
     requires room { REPLY_BYTES ≤ length out.old }
@@ -290,7 +290,7 @@ pub fn respond(
             })
         }
         Request::Turn(turn) => {
-            let arrival = Arrival {
+            let arrival = ClientMessage {
                 client,
                 message,
                 moment: now,

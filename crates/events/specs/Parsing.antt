@@ -5,8 +5,8 @@ use Rattle.std.specs.Borrow.{Bor}
 use Rattle.events.specs.Events.{Event, Datagram, Nonce}
 use Rattle.events.specs.declared.meta.Source.{Source}
 use Rattle.events.specs.Reading.{client_in_text, peer_in}
-use Rattle.events.specs.declared.parsing.Side.{Side}
-use Rattle.events.specs.declared.parsing.Side.TheVariants as side
+use Rattle.events.specs.declared.parsing.Origin.{Origin}
+use Rattle.events.specs.declared.parsing.Origin.TheVariants as side
 use Rattle.events.specs.declared.parsing.Parsed.{Parsed}
 use Rattle.events.specs.declared.parsing.Parsed.TheVariants as parsed
 
@@ -28,6 +28,6 @@ abbrev pub source_and_rest : Source × Bor (List ℕ) → Source × List ℕ
 source_and_rest pair = (pair.0, pair.1.now)
 
 -- the reader of a side's sources
-abbrev pub source_of_side : Side → ℕ → List ℕ → Option (Source × List ℕ)
+abbrev pub source_of_side : Origin → ℕ → List ℕ → Option (Source × List ℕ)
 source_of_side side.Client slots = client_in_text
 source_of_side side.Peer slots = peer_in slots

@@ -182,23 +182,23 @@ fn tx(text: &[u8]) -> Option<[u8; 12]>
 
 /// The side of a datagram.
 #[derive(Clone, Copy)]
-enum Side {
+enum Origin {
     Client,
     Peer,
 }
 
 /// Reads the source of a side's datagram, and returns it with the text after it.
-fn source(side: Side, text: &[u8], slots: usize) -> Option<(Source, &[u8])>
+fn source(side: Origin, text: &[u8], slots: usize) -> Option<(Source, &[u8])>
     ensures { option_map source_and_rest result ≡ source_of_side side slots text.now }
 {
     match side {
-        Side::Client => client(text),
-        Side::Peer => peer(text, slots),
+        Origin::Client => client(text),
+        Origin::Peer => peer(text, slots),
     }
 }
 
 /// Reads what follows the side of a datagram. Its bytes are read over the first bytes of a room.
-fn datagram<'a>(side: Side, text: &[u8], slots: usize, room: &mut [u8]) -> Option<Parsed<'a>>
+fn datagram<'a>(side: Origin, text: &[u8], slots: usize, room: &mut [u8]) -> Option<Parsed<'a>>
     requires { length room.old ≡ MAX_DATAGRAM }
     ensures reads { option_map (event_of room.new) result ≡ datagram_in_text (source_of_side side slots) text.now }
     ensures few { IfSome result FitsRoom }
@@ -236,10 +236,10 @@ fn read_line<'a>(line: &'a [u8], slots: usize, room: &mut [u8]) -> Option<Parsed
 {
     let (kind, text) = split_at(line, b' ')?;
     if kind == b"c".as_slice() {
-        return datagram(Side::Client, text, slots, room);
+        return datagram(Origin::Client, text, slots, room);
     }
     if kind == b"p".as_slice() {
-        return datagram(Side::Peer, text, slots, room);
+        return datagram(Origin::Peer, text, slots, room);
     }
     if kind == b"n".as_slice() {
         return nonce(text);

@@ -53,7 +53,7 @@ fn write_bytes<W: Write>(output: &mut Output<W>, bytes: &[u8]) -> Result<(), Fai
 
 /// The last field of a line.
 #[derive(Clone, Copy)]
-enum Field<'a> {
+enum LineField<'a> {
     /// Bytes, which are written as hexadecimal digits; no bytes as a hyphen.
     Digits(&'a [u8]),
     /// A text, which is written as it is.
@@ -61,15 +61,15 @@ enum Field<'a> {
 }
 
 /// Writes the last field of a line.
-fn write_field<W: Write>(output: &mut Output<W>, field: Field<'_>) -> Result<(), Failed>
+fn write_field<W: Write>(output: &mut Output<W>, field: LineField<'_>) -> Result<(), Failed>
     requires { output.old.failed ≡ false }
     ensures ok { OnOk result (Appends output.old.contents output.new.contents (field_text field.entry)) }
     ensures err { OnErr result (AppendsBeginning output.old.contents output.new.contents (field_text field.entry)) }
     ensures failed { output.new.failed ≡ is_err result }
 {
     match field {
-        Field::Digits(bytes) => write_bytes(output, bytes),
-        Field::Text(text) => output.write_all(text.as_bytes()),
+        LineField::Digits(bytes) => write_bytes(output, bytes),
+        LineField::Text(text) => output.write_all(text.as_bytes()),
     }
 }
 
@@ -77,7 +77,7 @@ fn write_field<W: Write>(output: &mut Output<W>, field: Field<'_>) -> Result<(),
 fn write_line<W: Write>(
     output: &mut Output<W>,
     front: &[u8],
-    field: Field<'_>,
+    field: LineField<'_>,
     ending: &[u8],
 ) -> Result<(), Failed>
     requires { output.old.failed ≡ false }
@@ -109,12 +109,12 @@ pub fn write_answer<W: Write>(
     ensures failed { output.new.failed ≡ is_err result }
 {
     match action {
-        Action::Nothing => write_line(output, b"", Field::Text("-"), ending),
+        Action::Nothing => write_line(output, b"", LineField::Text("-"), ending),
         Action::ToPeer { slot, peer, bytes } => {
             write_line(
                 output,
                 peer_front(*slot, peer).as_slice(),
-                Field::Digits(bytes),
+                LineField::Digits(bytes),
                 ending,
             )
         }
@@ -122,7 +122,7 @@ pub fn write_answer<W: Write>(
             write_line(
                 output,
                 client_front(client).as_slice(),
-                Field::Digits(bytes),
+                LineField::Digits(bytes),
                 ending,
             )
         }
@@ -147,10 +147,10 @@ pub fn write_event<W: Write>(output: &mut Output<W>, event: &Event<'_>) -> Resul
             write_line(
                 output,
                 datagram_front(meta).as_slice(),
-                Field::Digits(bytes),
+                LineField::Digits(bytes),
                 b"\n",
             )
         }
-        Event::Nonce(text) => write_line(output, b"n ", Field::Text(text), b"\n"),
+        Event::Nonce(text) => write_line(output, b"n ", LineField::Text(text), b"\n"),
     }
 }

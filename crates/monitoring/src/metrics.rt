@@ -42,7 +42,7 @@ pub(crate) struct Metrics<'a> {
 
 /// A metric: samples of one name, type and meaning.
 #[derive(Clone, Copy)]
-struct Family {
+struct MetricFamily {
     name: &'static str,
     /// `counter` or `gauge`.
     kind: &'static str,
@@ -102,74 +102,74 @@ fn verdict_name(verdict: usize) -> &'static str {
     }
 }
 
-impl Family {
-    const RECEIVED: Family = Family {
+impl MetricFamily {
+    const RECEIVED: MetricFamily = MetricFamily {
         name: "relayd_datagrams_received_total",
         kind: "counter",
         help: "Datagrams that came.",
     };
 
-    const RELAYED: Family = Family {
+    const RELAYED: MetricFamily = MetricFamily {
         name: "relayd_datagrams_relayed_total",
         kind: "counter",
         help: "Datagrams whose data was sent on.",
     };
 
-    const RESPONSES: Family = Family {
+    const RESPONSES: MetricFamily = MetricFamily {
         name: "relayd_responses_total",
         kind: "counter",
         help: "Responses to requests.",
     };
 
-    const DISCARDED: Family = Family {
+    const DISCARDED: MetricFamily = MetricFamily {
         name: "relayd_datagrams_discarded_total",
         kind: "counter",
         help: "Datagrams that nothing was sent for.",
     };
 
-    const VERDICTS: Family = Family {
+    const VERDICTS: MetricFamily = MetricFamily {
         name: "relayd_program_verdicts_total",
         kind: "counter",
         help: "Runs of the programs by their verdicts.",
     };
 
-    const COMPARED: Family = Family {
+    const COMPARED: MetricFamily = MetricFamily {
         name: "relayd_shadow_compared_total",
         kind: "counter",
         help: "Datagrams with which a shadow was compared.",
     };
 
-    const DIFFERING: Family = Family {
+    const DIFFERING: MetricFamily = MetricFamily {
         name: "relayd_shadow_differing_total",
         kind: "counter",
         help: "Datagrams with which a shadow would have done something else.",
     };
 
-    const DENIED: Family = Family {
+    const DENIED: MetricFamily = MetricFamily {
         name: "relayd_datagrams_denied_total",
         kind: "counter",
         help: "Datagrams for peers that nothing is sent to.",
     };
 
-    const FAULTS: Family = Family {
+    const FAULTS: MetricFamily = MetricFamily {
         name: "relayd_faults_total",
         kind: "counter",
         help: "Receives and sends that failed.",
     };
 
-    const DROPPED: Family = Family {
+    const DROPPED: MetricFamily = MetricFamily {
         name: "relayd_datagrams_dropped_total",
         kind: "counter",
         help: "Datagrams that the system dropped at UDP sockets with full buffers since the start.",
     };
 
-    const SLOTS: Family = Family {
+    const SLOTS: MetricFamily = MetricFamily {
         name: "relayd_slots",
         kind: "gauge",
         help: "Slots, each for one allocation.",
     };
 
-    const USED: Family = Family {
+    const USED: MetricFamily = MetricFamily {
         name: "relayd_slots_in_use",
         kind: "gauge",
         help: "Slots that have an allocation.",
@@ -187,7 +187,7 @@ impl Metrics<'_> {
     fn write_sample<W: Write>(
         &self,
         out: &mut W,
-        family: &Family,
+        family: &MetricFamily,
         labels: Labels<'_>,
         value: u64,
     ) -> io::Result<()> {
@@ -206,7 +206,12 @@ impl Metrics<'_> {
     }
 
     /// Writes a metric of one sample, which has no label of its own.
-    fn write_one<W: Write>(&self, out: &mut W, family: &Family, value: u64) -> io::Result<()> {
+    fn write_one<W: Write>(
+        &self,
+        out: &mut W,
+        family: &MetricFamily,
+        value: u64,
+    ) -> io::Result<()> {
         family.write_head(out)?;
         self.write_sample(out, family, &[], value)
     }
@@ -215,7 +220,7 @@ impl Metrics<'_> {
     fn write_each<W: Write>(
         &self,
         out: &mut W,
-        family: &Family,
+        family: &MetricFamily,
         label: &'static str,
         counters: &[(&'static str, Counter)],
     ) -> io::Result<()> {
@@ -233,16 +238,16 @@ impl Metrics<'_> {
             ("clients", Counter::FromClients),
             ("peers", Counter::FromPeers),
         ];
-        self.write_each(out, &Family::RECEIVED, "from", &from)?;
+        self.write_each(out, &MetricFamily::RECEIVED, "from", &from)?;
         let to = [("peers", Counter::ToPeers), ("clients", Counter::ToClients)];
-        self.write_each(out, &Family::RELAYED, "to", &to)?;
+        self.write_each(out, &MetricFamily::RELAYED, "to", &to)?;
         let results = [
             ("granted", Counter::Granted),
             ("challenged", Counter::Challenged),
             ("unauthenticated", Counter::Unauthenticated),
             ("refused", Counter::Refused),
         ];
-        self.write_each(out, &Family::RESPONSES, "result", &results)
+        self.write_each(out, &MetricFamily::RESPONSES, "result", &results)
     }
 
     /// Writes the datagrams of a kind that were discarded.
@@ -250,23 +255,27 @@ impl Metrics<'_> {
         for reason in REASONS {
             let value = self.counters.get(Counter::Discarded(kind, reason));
             let labels = [("kind", kind_name(kind)), ("reason", reason_name(reason))];
-            self.write_sample(out, &Family::DISCARDED, &labels, value)?;
+            self.write_sample(out, &MetricFamily::DISCARDED, &labels, value)?;
         }
         Ok(())
     }
 
     /// Writes what wasn't sent, and what failed.
     fn write_unsent<W: Write>(&self, out: &mut W) -> io::Result<()> {
-        Family::DISCARDED.write_head(out)?;
+        MetricFamily::DISCARDED.write_head(out)?;
         for kind in KINDS {
             self.write_discarded(out, kind)?;
         }
-        self.write_one(out, &Family::DENIED, self.counters.get(Counter::Denied))?;
+        self.write_one(
+            out,
+            &MetricFamily::DENIED,
+            self.counters.get(Counter::Denied),
+        )?;
         let calls = [
             ("receive", Counter::ReceiveFaults),
             ("send", Counter::SendFaults),
         ];
-        self.write_each(out, &Family::FAULTS, "call", &calls)
+        self.write_each(out, &MetricFamily::FAULTS, "call", &calls)
     }
 
     /// Writes how often the program of a side ended with which verdict.
@@ -277,7 +286,7 @@ impl Metrics<'_> {
                 ("side", side_name(side)),
                 ("verdict", verdict_name(verdict)),
             ];
-            self.write_sample(out, &Family::VERDICTS, &labels, value)?;
+            self.write_sample(out, &MetricFamily::VERDICTS, &labels, value)?;
         }
         Ok(())
     }
@@ -292,27 +301,32 @@ impl Metrics<'_> {
                 ("side", side_name(side)),
                 ("difference", difference_name(difference)),
             ];
-            self.write_sample(out, &Family::DIFFERING, &labels, counts.get(difference))?;
+            self.write_sample(
+                out,
+                &MetricFamily::DIFFERING,
+                &labels,
+                counts.get(difference),
+            )?;
         }
         Ok(())
     }
 
     /// Writes what the programs did, and how their shadows compare, if there are some.
     fn write_programs<W: Write>(&self, out: &mut W) -> io::Result<()> {
-        Family::VERDICTS.write_head(out)?;
+        MetricFamily::VERDICTS.write_head(out)?;
         self.write_verdicts(out, Side::Client)?;
         self.write_verdicts(out, Side::Peer)?;
         if !self.shadows.has_some() {
             return Ok(());
         }
-        Family::COMPARED.write_head(out)?;
+        MetricFamily::COMPARED.write_head(out)?;
         for side in [Side::Client, Side::Peer] {
             if let Some(counts) = self.shadows.counts_of(side) {
                 let labels = [("side", side_name(side))];
-                self.write_sample(out, &Family::COMPARED, &labels, counts.compared())?;
+                self.write_sample(out, &MetricFamily::COMPARED, &labels, counts.compared())?;
             }
         }
-        Family::DIFFERING.write_head(out)?;
+        MetricFamily::DIFFERING.write_head(out)?;
         self.write_differing(out, Side::Client)?;
         self.write_differing(out, Side::Peer)
     }
@@ -323,10 +337,10 @@ impl Metrics<'_> {
         self.write_unsent(out)?;
         self.write_programs(out)?;
         if let Some(dropped) = self.dropped {
-            self.write_one(out, &Family::DROPPED, dropped)?;
+            self.write_one(out, &MetricFamily::DROPPED, dropped)?;
         }
-        self.write_one(out, &Family::SLOTS, self.slots as u64)?;
-        self.write_one(out, &Family::USED, self.used as u64)
+        self.write_one(out, &MetricFamily::SLOTS, self.slots as u64)?;
+        self.write_one(out, &MetricFamily::USED, self.used as u64)
     }
 }
 

@@ -105,7 +105,7 @@ struct Counts {
 
 /// A line of the log. Displays as that.
 #[derive(Clone, Copy)]
-struct Entry {
+struct LogEntry {
     happening: Happening,
     sender: Sender,
     /// The relayed port of slot 0.
@@ -129,7 +129,7 @@ pub struct ServerLog {
     /// For each slot the allocation that was logged and whose end wasn't.
     open: Vec<Option<Open>>,
     /// What was added since all was printed.
-    entries: Vec<Entry>,
+    entries: Vec<LogEntry>,
     /// How many of these are printed.
     printed: usize,
     /// How many were added in this period, those that were printed included.
@@ -226,14 +226,14 @@ impl Counts {
     }
 }
 
-impl Entry {
+impl LogEntry {
     /// Returns the relayed port of a slot.
     fn port(&self, slot: usize) -> usize {
         usize::from(self.first_port).saturating_add(slot)
     }
 }
 
-impl fmt::Display for Entry {
+impl fmt::Display for LogEntry {
     fn fmt<W: fmt::Write>(&self, f: &mut fmt::Formatter<W>) -> fmt::Result {
         let what = match self.happening {
             Happening::Made { .. } => "allocation made",
@@ -307,7 +307,7 @@ impl ServerLog {
             self.left_out = self.left_out.saturating_add(1);
             return;
         }
-        let _ = self.entries.push(Entry {
+        let _ = self.entries.push(LogEntry {
             happening,
             sender,
             first_port: self.first_port,

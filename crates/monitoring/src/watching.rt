@@ -14,7 +14,7 @@ const NAMED: usize = 100;
 
 /// A datagram with which a shadow does something else, by its line of the record.
 #[derive(Clone, Copy)]
-struct Named {
+struct NamedDifference {
     side: Side,
     line: u64,
     comparison: Comparison,
@@ -26,7 +26,7 @@ pub struct Watch<'a> {
     pub recording: Recording<'a>,
     pub shadows: Shadows,
     /// Those that are to be named.
-    named: Vec<Named>,
+    named: Vec<NamedDifference>,
     /// How many may still be named.
     left: usize,
 }
@@ -59,7 +59,7 @@ impl<'a> Watch<'a> {
             return;
         }
         if let Some(line) = self.recording.line() {
-            let named = Named {
+            let named = NamedDifference {
                 side,
                 line,
                 comparison,

@@ -13,7 +13,7 @@ use attributes::{Addr, Family};
 use std::net::{Ipv4Addr, Ipv6Addr};
 
 /// Endpoints of a server.
-type Endpoints = ArrayVec<ServerEndpoint, MAX_ENDPOINTS>;
+type OwnEndpoints = ArrayVec<ServerEndpoint, MAX_ENDPOINTS>;
 
 /// Where a server listens, and from where it relays.
 #[derive(Clone, Copy)]
@@ -59,7 +59,7 @@ fn clients_at(server: &ServerAddresses, ip: Ipv4Addr) -> ServerEndpoint
 
 /// Returns the clients' port of any address where a server listens at all of them, and else of the one that it listens at and of
 /// the relayed one.
-fn client_endpoints(server: &ServerAddresses) -> Endpoints
+fn client_endpoints(server: &ServerAddresses) -> OwnEndpoints
     ensures own { IsClientPort server.now result.items }
     ensures few { length result.items ≤ 2 }
 {
@@ -105,7 +105,7 @@ fn outside_v6(server: &ServerAddresses, ip: Option<Ipv6Addr>) -> Option<ServerEn
 }
 
 /// Appends an endpoint, if there is one.
-fn push_some(own: &mut Endpoints, endpoint: Option<ServerEndpoint>)
+fn push_some(own: &mut OwnEndpoints, endpoint: Option<ServerEndpoint>)
     requires { length own.old.items < MAX_ENDPOINTS }
     ensures own { own.new.items ≡ own.old.items ++ option_to_list endpoint }
     ensures few { length own.new.items ≤ length own.old.items + 1 }

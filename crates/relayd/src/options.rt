@@ -284,7 +284,7 @@ pub(crate) struct Texts {
 
 /// Whose credentials are accepted, as the options and their files say.
 #[derive(Drop)]
-struct Credentials {
+struct Accounts {
     users: Vec<User>,
     secret: Option<Vec<u8>>,
     former_secret: Option<Vec<u8>>,
@@ -296,14 +296,14 @@ struct Credentials {
 fn credentials_of<'a, R: Files + AllocGlobal>(
     rt: &R,
     options: &Options<'a>,
-) -> Result<Credentials, CommandError<'a>> {
+) -> Result<Accounts, CommandError<'a>> {
     let (users, users_text) = users_of(rt, options)?;
     let (secret, former_secret, secrets_text) = match secrets_of(rt, options)? {
         Some((secrets, text)) => (Some(secrets.secret), secrets.former, Some(text)),
         None => (None, None, None),
     };
     let (revoked, revoked_text) = revoked_of(rt, options)?;
-    Ok(Credentials {
+    Ok(Accounts {
         users,
         secret,
         former_secret,

@@ -16,8 +16,8 @@ use rand_core::Rng;
 use relay::{Disposition, Relay, Source};
 use replacing::{Contents, RereadFile, Sides};
 use server::{
-    Arrival, ClockOffset, Counters, LinkFault, Moments, Outcome, Place, Ports, Schedule, TURNS,
-    Timer, draw_nonce, serve_round, turn,
+    Arrival, ClockOffset, Counters, LinkFault, Moments, Place, Ports, Schedule, TURNS, Timer,
+    TurnOutcome, draw_nonce, serve_round, turn,
 };
 use sockets::Sockets;
 use std::fs::File;
@@ -363,7 +363,7 @@ impl<'a> Server<'a> {
         match served {
             Ok(None) => return false,
             Ok(Some(served)) => {
-                if let Outcome::Done(Disposition::Answered(response)) = served.outcome {
+                if let TurnOutcome::Done(Disposition::Answered(response)) = served.outcome {
                     self.note_response(&served.from, response, now);
                 }
             }

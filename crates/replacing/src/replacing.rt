@@ -29,7 +29,7 @@ pub struct ProgramFile<'a> {
 
 /// A program that is to replace the one that runs.
 #[derive(Drop)]
-enum Next {
+enum Successor {
     /// There is none.
     Nothing,
     /// Its bytes are being verified.
@@ -40,14 +40,14 @@ enum Next {
 
 /// The program of a side, and the file that it is replaced from.
 #[derive(Drop)]
-struct Side<'a> {
+struct WatchedProgram<'a> {
     /// The file, if one is given.
     path: Option<&'a str>,
     /// The bytes of the program that runs, if it isn't the shipped one, and those that the file had when it was last refused.
     watched: Watched,
     /// Why the file couldn't be used when it was last looked at.
     unusable: Option<UnusableFile>,
-    next: Next,
+    successor: Successor,
     /// What the last verification has kept, which is freed gradually.
     remains: Option<Remains>,
 }
@@ -73,23 +73,24 @@ impl ProgramPair for Shadows {
 /// The programs of both sides, of a relay or of its shadows.
 #[derive(Drop)]
 pub struct Sides<'a> {
-    client: Side<'a>,
-    peer: Side<'a>,
+    client: WatchedProgram<'a>,
+    peer: WatchedProgram<'a>,
 }
 
-impl Next {
+impl Successor {
     /// Returns whether there is one, of these bytes.
     fn is_of(&self, other: &[u8]) -> bool {
         match self {
-            Next::Nothing => false,
-            Next::Verifying { bytes, .. } | Next::Ready { bytes, .. } => bytes.as_slice() == other,
+            Successor::Nothing => false,
+            Successor::Verifying { bytes, .. } | Successor::Ready { bytes, .. } => bytes.as_slice()
+                == other,
         }
     }
 
     /// Returns whether there is one.
     fn is_some(&self) -> bool {
         match self {
-            Next::Nothing => false,
+            Successor::Nothing => false,
             _ => true,
         }
     }
@@ -97,31 +98,34 @@ impl Next {
     /// Returns whether it is being verified.
     fn is_verifying(&self) -> bool {
         match self {
-            Next::Verifying { .. } => true,
+            Successor::Verifying { .. } => true,
             _ => false,
         }
     }
 }
 
-impl<'a> Side<'a> {
-    fn new(file: ProgramFile<'a>) -> Side<'a> {
-        Side {
+impl<'a> WatchedProgram<'a> {
+    fn new(file: ProgramFile<'a>) -> WatchedProgram<'a> {
+        WatchedProgram {
             path: file.path,
             watched: Watched::new(file.bytes),
             unusable: None,
-            next: Next::Nothing,
+            successor: Successor::Nothing,
             remains: None,
         }
     }
 
     /// Returns whether there is a next program, or what is left of a verification.
     fn is_busy(&self) -> bool {
-        self.next.is_some() || self.remains.is_some()
+        self.successor.is_some() || self.remains.is_some()
     }
 
     /// Gives the next program up, if there is one.
     fn withdraw(&mut self) {
-        if let Next::Verifying { loading, .. } = mem::replace(&mut self.next, Next::Nothing) {
+        if let Successor::Verifying { loading, .. } = mem::replace(
+            &mut self.successor,
+            Successor::Nothing,
+        ) {
             self.remains = Some(loading.into_remains());
         }
     }
@@ -182,7 +186,7 @@ impl<'a> Side<'a> {
         let Some(bytes) = self.read(rt, err) else {
             return;
         };
-        if self.next.is_of(&bytes) {
+        if self.successor.is_of(&bytes) {
             return;
         }
         self.withdraw();
@@ -190,7 +194,7 @@ impl<'a> Side<'a> {
             return;
         }
         match Loading::new(rt.alloc(), &bytes) {
-            Ok(loading) => self.next = Next::Verifying { loading, bytes },
+            Ok(loading) => self.successor = Successor::Verifying { loading, bytes },
             Err(error) => self.refuse(err, error, bytes),
         }
     }
@@ -198,9 +202,12 @@ impl<'a> Side<'a> {
     /// Goes on verifying the next program by a slice, if one is being verified, and freeing what the last verification has kept.
     fn advance<E: Write>(&mut self, err: &mut E) {
         self.free();
-        match mem::replace(&mut self.next, Next::Nothing) {
-            Next::Verifying { loading, bytes } => match loading.advance(SLICE) {
-                LoadProgress::Going(loading) => self.next = Next::Verifying { loading, bytes },
+        match mem::replace(&mut self.successor, Successor::Nothing) {
+            Successor::Verifying { loading, bytes } => match loading.advance(SLICE) {
+                LoadProgress::Going(loading) => self.successor = Successor::Verifying {
+                    loading,
+                    bytes,
+                },
                 LoadProgress::GivenUp(remains) => {
                     self.remains = Some(remains);
                     self.give_up(err, bytes);
@@ -208,27 +215,27 @@ impl<'a> Side<'a> {
                 LoadProgress::Ended(result, remains) => {
                     self.remains = Some(remains);
                     match result {
-                        Ok(loaded) => self.next = Next::Ready { loaded, bytes },
+                        Ok(loaded) => self.successor = Successor::Ready { loaded, bytes },
                         Err(refusal) => self.refuse(err, LoadError::from(refusal), bytes),
                     }
                 }
             },
-            next => self.next = next,
+            successor => self.successor = successor,
         }
     }
 
     /// Takes the next program, if it is loaded, as the one that runs, and reports it.
     fn take<E: Write>(&mut self, err: &mut E) -> Option<Loaded> {
-        match mem::replace(&mut self.next, Next::Nothing) {
-            Next::Ready { loaded, bytes } => {
+        match mem::replace(&mut self.successor, Successor::Nothing) {
+            Successor::Ready { loaded, bytes } => {
                 if let Some(path) = self.path {
                     let _ = writeln!(err, "loaded {path}");
                 }
                 self.watched.put_in_use(bytes);
                 Some(loaded)
             }
-            next => {
-                self.next = next;
+            successor => {
+                self.successor = successor;
                 None
             }
         }
@@ -239,8 +246,8 @@ impl<'a> Sides<'a> {
     /// Returns two programs, each with its file and the bytes that this had, if one is given.
     pub fn new(client: ProgramFile<'a>, peer: ProgramFile<'a>) -> Sides<'a> {
         Sides {
-            client: Side::new(client),
-            peer: Side::new(peer),
+            client: WatchedProgram::new(client),
+            peer: WatchedProgram::new(peer),
         }
     }
 
@@ -270,7 +277,7 @@ impl<'a> Sides<'a> {
     pub fn advance<P: ProgramPair, E: Write>(&mut self, programs: &mut P, err: &mut E) -> bool {
         self.client.advance(err);
         self.peer.advance(err);
-        if self.client.next.is_verifying() || self.peer.next.is_verifying() {
+        if self.client.successor.is_verifying() || self.peer.successor.is_verifying() {
             return false;
         }
         let client = self.client.take(err);

@@ -11,8 +11,8 @@ use Rattle.server.specs.declared.counters.Counter.{Counter}
 use Rattle.server.specs.declared.counters.Counter.TheVariants as counter
 use Rattle.server.specs.declared.counters.Kind.{Kind}
 use Rattle.server.specs.declared.counters.Kind.TheVariants.{ChannelData, Message, Other, FromPeer}
-use Rattle.server.specs.declared.counters.Outcome.{Outcome}
-use Rattle.server.specs.declared.counters.Outcome.TheVariants as outcome
+use Rattle.server.specs.declared.counters.TurnOutcome.{TurnOutcome}
+use Rattle.server.specs.declared.counters.TurnOutcome.TheVariants as outcome
 use Rattle.credentials.specs.declared.checking.AuthError.TheVariants as auth
 use Rattle.rules.specs.declared.disposition.Discard.{Discard}
 use Rattle.rules.specs.declared.disposition.Disposition.TheVariants.{Relayed, Answered, Discarded}
@@ -45,7 +45,7 @@ of_response P each (response.Unauthenticated auth.Expired) = each.unauthenticate
 of_response P each (response.Unauthenticated auth.Incomplete) = each.refused
 of_response P each (response.Refused error) = each.refused
 
-of_outcome : (P : Counter → Type 0) → OfEach P → (kind : Kind) (o : Outcome) → P (outcome_counter kind o)
+of_outcome : (P : Counter → Type 0) → OfEach P → (kind : Kind) (o : TurnOutcome) → P (outcome_counter kind o)
 of_outcome P each kind (outcome.Done Relayed) = each_kind (λ k. P (outcome_counter k (outcome.Done Relayed))) each.to_peers each.to_peers each.to_peers each.to_clients kind
 of_outcome P each kind (outcome.Done (Answered r)) = of_response P each r
 of_outcome P each kind (outcome.Done (Discarded reason)) = each.discarded kind reason
@@ -132,10 +132,10 @@ at_neither a o c n old new le others not_a not_o =
     let is : new c ≡ old c = others (λ e. both_ways _ not_a (eq-eqb _ _ (ap counter_index (sym e)))) (λ e. both_ways _ not_o (eq-eqb _ _ (ap counter_index (sym e)))) in
     rw not_a (rw not_o (omega (arith, is), omega (arith, is, le)))
 
-apart_of : (kind : Kind) (o : Outcome) → is_at (outcome_counter kind o) (arrival_counter kind) ≡ false
+apart_of : (kind : Kind) (o : TurnOutcome) → is_at (outcome_counter kind o) (arrival_counter kind) ≡ false
 apart_of kind o = let e = of_outcome IsOnce once kind o in apart kind (outcome_counter kind o) e.2 e.3
 
-at_each : (kind : Kind) (o : Outcome) (n : ℕ) (old new : Counter → ℕ) → HasCounted kind o old new → n + 1 < 2 ^ 64 → (c : Counter) → old c ≤ n
+at_each : (kind : Kind) (o : TurnOutcome) (n : ℕ) (old new : Counter → ℕ) → HasCounted kind o old new → n + 1 < 2 ^ 64 → (c : Counter) → old c ≤ n
     → Rises n (old c) (new c) (is_at (arrival_counter kind) c) (is_at (outcome_counter kind o) c)
 at_each kind o n old new counted fits c le =
     let a = arrival_counter kind in
@@ -170,9 +170,9 @@ same_sums old new each (c ∷ cs) = omega (arith, each c, same_sums old new each
 
 -- the sum of one list of counters after datagrams, each of which is in it once
 record IsCountedIn (cs : List Counter) : Type 0 where
-  pub is_once : (kind : Kind) (o : Outcome) → count_by (is_at (arrival_counter kind)) cs + count_by (is_at (outcome_counter kind o)) cs ≡ 1
+  pub is_once : (kind : Kind) (o : TurnOutcome) → count_by (is_at (arrival_counter kind)) cs + count_by (is_at (outcome_counter kind o)) cs ≡ 1
 
-sum_after : (cs : List Counter) → IsCountedIn cs → (datagrams : List (Kind × Outcome)) (n : ℕ) (old new : Counter → ℕ) → ((c : Counter) → old c ≤ n)
+sum_after : (cs : List Counter) → IsCountedIn cs → (datagrams : List (Kind × TurnOutcome)) (n : ℕ) (old new : Counter → ℕ) → ((c : Counter) → old c ≤ n)
     → n + length datagrams < 2 ^ 64 → HaveCounted datagrams old new → sum_by new cs ≡ sum_by old cs + length datagrams
 sum_after cs is_in [] n old new le fits counted = omega (arith, same_sums old new counted cs)
 sum_after cs is_in ((kind, o) ∷ rest) n old new le fits (next, first, others) =
@@ -192,7 +192,7 @@ zero_sum : (old : Counter → ℕ) → ((c : Counter) → old c ≡ 0) → (cs :
 zero_sum old each [] = refl
 zero_sum old each (c ∷ cs) = omega (arith, each c, zero_sum old each cs, sum_by-cons old c cs)
 
-sum_from_zero : (cs : List Counter) → IsCountedIn cs → (datagrams : List (Kind × Outcome)) (old new : Counter → ℕ) → ((c : Counter) → old c ≡ 0)
+sum_from_zero : (cs : List Counter) → IsCountedIn cs → (datagrams : List (Kind × TurnOutcome)) (old new : Counter → ℕ) → ((c : Counter) → old c ≡ 0)
     → length datagrams < 2 ^ 64 → HaveCounted datagrams old new → sum_by new cs ≡ length datagrams
 sum_from_zero cs is_in datagrams old new zero few counted =
     omega (arith, zero_sum old zero cs, sum_after cs is_in datagrams 0 old new (λ c. omega (arith, zero c)) (omega (arith, few)) counted)
@@ -203,7 +203,7 @@ counts_each_once datagrams old new zero few counted =
 
 -- ---- a datagram's two counters, raised one after the other
 
-pub has_counted : (kind : Kind) (o : Outcome) (a b : Counter) (old next new : Counter → ℕ) → a ≡ arrival_counter kind → b ≡ outcome_counter kind o
+pub has_counted : (kind : Kind) (o : TurnOutcome) (a b : Counter) (old next new : Counter → ℕ) → a ≡ arrival_counter kind → b ≡ outcome_counter kind o
     → HasRaised a old next → HasRaised b next new → HasCounted kind o old new
 has_counted kind o a b old next new is_a is_b first second =
     let other : a ≢ b = λ e. both_ways _ (apart_of kind o) (eq-eqb _ _ (ap counter_index (sym is_b ∙ sym e ∙ is_a))) in

@@ -22,8 +22,8 @@ use Rattle.tables.specs.Moments.{moment_of}
 use Rattle.server.proofs.Reported.{reported_more, reported_none}
 use Rattle.server.specs.Calls.{Call, Received, HasReported}
 use Rattle.server.specs.Turns.{may_send, send_of, outcome_of_send, IsReceived, HasAnswered, IsAnswered, IsTurn, HasTurned, IsUntouched, outcome_of_bytes, ruled_outcome_of_bytes, disposition_of_bytes}
-use Rattle.server.specs.declared.counters.Outcome.{Outcome}
-use Rattle.server.specs.declared.counters.Outcome.TheVariants as outcome
+use Rattle.server.specs.declared.counters.TurnOutcome.{TurnOutcome}
+use Rattle.server.specs.declared.counters.TurnOutcome.TheVariants as outcome
 use Rattle.server.specs.declared.link.LinkFault.{LinkFault}
 use Rattle.server.specs.declared.turning.Arrival.{Arrival}
 use Rattle.server.specs.declared.turning.Arrived.{Arrived}
@@ -32,13 +32,13 @@ use Rattle.server.specs.declared.turning.Served.{Served}
 -- ---- an answer
 
 -- that was sent, or whose send failed
-pub is_answered : (filter : Option Filter) (answer : Option Sending) (sending : Sending) (done : Disposition) (before after : Option (List Call)) (became : Outcome) → answer ≡ Some sending → may_send filter sending ≡ true
+pub is_answered : (filter : Option Filter) (answer : Option Sending) (sending : Sending) (done : Disposition) (before after : Option (List Call)) (became : TurnOutcome) → answer ≡ Some sending → may_send filter sending ≡ true
     → ((called : Result (Unit {0}) LinkFault) × HasReported before after (send_of sending called ∷ []) × (became ≡ outcome_of_send done called)) → IsAnswered filter answer done before after became
 is_answered filter answer sending done before after became is may (called, reported, same) =
     subst (λ o. IsAnswered filter o done before after became) (sym is) (record { sends = send_of sending called ∷ []; reported = reported; answered = inl (may, called, refl, same) })
 
 -- whose peer is denied
-pub is_denied : (filter : Option Filter) (answer : Option Sending) (sending : Sending) (done : Disposition) (now : Option (List Call)) (became : Outcome) → answer ≡ Some sending → may_send filter sending ≡ false → became ≡ outcome.Denied
+pub is_denied : (filter : Option Filter) (answer : Option Sending) (sending : Sending) (done : Disposition) (now : Option (List Call)) (became : TurnOutcome) → answer ≡ Some sending → may_send filter sending ≡ false → became ≡ outcome.Denied
     → IsAnswered filter answer done now now became
 is_denied filter answer sending done now became is may denied =
     subst (λ o. IsAnswered filter o done now now became) (sym is) (record { sends = []; reported = reported_none now; answered = inr (may, refl, denied) })
@@ -80,7 +80,7 @@ module _ (filter : Option Filter) (arrival : Arrival) (old : RelayContents) (buf
     taken = taken;
   }
 
-  pub takes : (a : Arrived) (new : RelayContents) (answer : Option Sending) (done : Disposition) (before between after : Option (List Call)) (former latter : Option (List Event)) (became : Outcome) (verdict : Option ℕ) (result : Result (Option Served) LinkFault)
+  pub takes : (a : Arrived) (new : RelayContents) (answer : Option Sending) (done : Disposition) (before between after : Option (List Call)) (former latter : Option (List Event)) (became : TurnOutcome) (verdict : Option ℕ) (result : Result (Option Served) LinkFault)
       → IsReceived arrival buffer before between former latter (Ok (Some a))
       → HasStepped with_buffer new (relay.outcome_of with_buffer a.meta a.n) → answer ≡ (relay.outcome_of with_buffer a.meta a.n).answer
       → done ≡ relay.disposition_of_step with_buffer a.meta a.n → IsAnswered filter answer done between after became

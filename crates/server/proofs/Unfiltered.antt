@@ -10,8 +10,8 @@ use Rattle.rules.specs.declared.disposition.Disposition.{Disposition}
 use Rattle.server.specs.Calls.{Call}
 use Rattle.server.specs.Serving.{IsServed, HasServed, HasSent, result_of_send}
 use Rattle.server.specs.Turns.{may_send, outcome_of_send, arrived, HasArrived, HasAnswered, HasTurned, IsTurn}
-use Rattle.server.specs.declared.counters.Outcome.{Outcome}
-use Rattle.server.specs.declared.counters.Outcome.TheVariants as outcome
+use Rattle.server.specs.declared.counters.TurnOutcome.{TurnOutcome}
+use Rattle.server.specs.declared.counters.TurnOutcome.TheVariants as outcome
 use Rattle.server.specs.declared.link.LinkFault.{LinkFault}
 use Rattle.server.specs.declared.serving.ServeError.{ServeError}
 use Rattle.server.specs.declared.serving.ServeError.TheVariants as error
@@ -19,7 +19,7 @@ use Rattle.server.specs.declared.turning.Arrival.{Arrival}
 use Rattle.server.specs.declared.turning.Arrived.{Arrived}
 use Rattle.server.specs.declared.turning.Served.{Served}
 
-abbrev pub result_of : Outcome → Result (Option Disposition) ServeError
+abbrev pub result_of : TurnOutcome → Result (Option Disposition) ServeError
 result_of (outcome.Done done) = Ok (Some done)
 result_of outcome.Denied = Err error.Send
 result_of outcome.SendFailed = Err error.Send
@@ -37,7 +37,7 @@ each_allowed : (sending : Sending) → may_send None sending ≡ true
 each_allowed (ToPeer slot peer bytes) = refl
 each_allowed (ToClient client bytes) = refl
 
-has_sent : (answer : Option Sending) (done : Disposition) (sends : List Call) (became : Outcome) → HasAnswered None answer done sends became → HasSent answer done sends (result_of became)
+has_sent : (answer : Option Sending) (done : Disposition) (sends : List Call) (became : TurnOutcome) → HasAnswered None answer done sends became → HasSent answer done sends (result_of became)
 has_sent None done sends became (none, is) = (none, ap result_of is)
 has_sent (Some sending) done sends became (inl (may, called, sent, is)) = (called, sent, ap result_of is ∙ result_sent done called)
 has_sent (Some sending) done sends became (inr (denied, none, is)) = absurd (both_ways (may_send None sending) denied (each_allowed sending))

@@ -7,8 +7,8 @@ use Rattle.server.specs.declared.counters.Counter.{Counter}
 use Rattle.server.specs.declared.counters.Counter.TheVariants as counter
 use Rattle.server.specs.declared.counters.Kind.{Kind}
 use Rattle.server.specs.declared.counters.Kind.TheVariants.{ChannelData, Message, Other, FromPeer}
-use Rattle.server.specs.declared.counters.Outcome.{Outcome}
-use Rattle.server.specs.declared.counters.Outcome.TheVariants as outcome
+use Rattle.server.specs.declared.counters.TurnOutcome.{TurnOutcome}
+use Rattle.server.specs.declared.counters.TurnOutcome.TheVariants as outcome
 use Rattle.credentials.specs.declared.checking.AuthError.TheVariants as auth
 use Rattle.rules.specs.declared.disposition.Disposition.TheVariants.{Relayed, Answered, Discarded}
 use Rattle.server.specs.declared.link.Place.{Place}
@@ -54,7 +54,7 @@ response_counter (response.Unauthenticated auth.Incomplete) = counter.Refused
 response_counter (response.Refused error) = counter.Refused
 
 -- this became of it
-abbrev pub outcome_counter : Kind → Outcome → Counter
+abbrev pub outcome_counter : Kind → TurnOutcome → Counter
 outcome_counter kind (outcome.Done Relayed) = relayed_counter kind
 outcome_counter kind (outcome.Done (Answered response)) = response_counter response
 outcome_counter kind (outcome.Done (Discarded reason)) = counter.Discarded kind reason
@@ -73,13 +73,13 @@ pub record HasRaised {Name : Type 0} (c : Name) (old new : Name → ℕ) : Type 
   pub others : (d : Name) → d ≢ c → new d ≡ old d
 
 -- the two counters of a datagram are raised, and no other one changes
-pub record HasCounted (kind : Kind) (o : Outcome) (old new : Counter → ℕ) : Type 0 where
+pub record HasCounted (kind : Kind) (o : TurnOutcome) (old new : Counter → ℕ) : Type 0 where
   pub arrival : new (arrival_counter kind) ≡ raised (old (arrival_counter kind))
   pub became : new (outcome_counter kind o) ≡ raised (old (outcome_counter kind o))
   pub others : (c : Counter) → c ≢ arrival_counter kind → c ≢ outcome_counter kind o → new c ≡ old c
 
 -- datagrams were counted, one after the other
-abbrev pub HaveCounted : List (Kind × Outcome) → (Counter → ℕ) → (Counter → ℕ) → Type 0
+abbrev pub HaveCounted : List (Kind × TurnOutcome) → (Counter → ℕ) → (Counter → ℕ) → Type 0
 HaveCounted [] old new = (c : Counter) → new c ≡ old c
 HaveCounted ((kind, o) ∷ rest) old new = (next : Counter → ℕ) × HasCounted kind o old next × HaveCounted rest next new
 
@@ -110,6 +110,6 @@ outcome_counters = counter.ToPeers ∷ counter.ToClients ∷ counter.Granted ∷
 -- Where all counters were 0, and fewer than 2^64 datagrams were counted, those that came add up to their number, and so do
 -- those by what became of them.
 abbrev pub CountsEachOnce : Type 0
-CountsEachOnce = (datagrams : List (Kind × Outcome)) (old new : Counter → ℕ) → ((c : Counter) → old c ≡ 0) → length datagrams < 2 ^ 64
+CountsEachOnce = (datagrams : List (Kind × TurnOutcome)) (old new : Counter → ℕ) → ((c : Counter) → old c ≡ 0) → length datagrams < 2 ^ 64
     → HaveCounted datagrams old new
     → (sum_by new arrival_counters ≡ length datagrams) × (sum_by new outcome_counters ≡ length datagrams)

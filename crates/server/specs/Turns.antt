@@ -23,8 +23,8 @@ use Rattle.machine.specs.declared.context.Side.{Side}
 use Rattle.server.specs.Counters.{datagram_kind, HasRaised, HasCounted, HasCountedVerdict}
 use Rattle.server.specs.declared.counters.Counter.{Counter}
 use Rattle.server.specs.declared.counters.Counter.TheVariants as counter
-use Rattle.server.specs.declared.counters.Outcome.{Outcome}
-use Rattle.server.specs.declared.counters.Outcome.TheVariants as outcome
+use Rattle.server.specs.declared.counters.TurnOutcome.{TurnOutcome}
+use Rattle.server.specs.declared.counters.TurnOutcome.TheVariants as outcome
 use Rattle.server.specs.declared.link.Place.{Place}
 use Rattle.server.specs.declared.link.Place.TheVariants as endpoint
 use Rattle.server.specs.declared.link.LinkFault.{LinkFault}
@@ -88,12 +88,12 @@ may_send filter (ToPeer slot peer bytes) = may_reach filter peer
 may_send filter (ToClient client bytes) = may_answer filter client
 
 -- what becomes of a datagram with which this was done, and whose answer was sent or wasn't
-abbrev pub outcome_of_send : Disposition → Result (Unit {0}) LinkFault → Outcome
+abbrev pub outcome_of_send : Disposition → Result (Unit {0}) LinkFault → TurnOutcome
 outcome_of_send done (Ok sent) = outcome.Done done
 outcome_of_send done (Err fault) = outcome.SendFailed
 
 -- an answer is sent once, unless its peer may not be reached, or its client not be answered; without an answer nothing is sent
-abbrev pub HasAnswered : Option Filter → Option Sending → Disposition → List Call → Outcome → Type 0
+abbrev pub HasAnswered : Option Filter → Option Sending → Disposition → List Call → TurnOutcome → Type 0
 HasAnswered filter None done sends became = (sends ≡ []) × (became ≡ outcome.Done done)
 HasAnswered filter (Some sending) done sends became =
     ((may_send filter sending ≡ true)
@@ -101,7 +101,7 @@ HasAnswered filter (Some sending) done sends became =
     ⊎ ((may_send filter sending ≡ false) × (sends ≡ []) × (became ≡ outcome.Denied))
 
 -- the same, as the link reports it
-pub record IsAnswered (filter : Option Filter) (answer : Option Sending) (done : Disposition) (before after : Option (List Call)) (became : Outcome) : Type 0 where
+pub record IsAnswered (filter : Option Filter) (answer : Option Sending) (done : Disposition) (before after : Option (List Call)) (became : TurnOutcome) : Type 0 where
   pub sends : List Call
   pub reported : HasReported before after sends
   pub answered : HasAnswered filter answer done sends became
@@ -139,7 +139,7 @@ pub record HasDecided (old new : RelayContents) (given : Meta) (bytes : List ℕ
 -- a datagram was decided and answered
 pub record HasHandled (filter : Option Filter) (old new : RelayContents) (a : Arrived) (bytes : List ℕ) (sends : List Call) (result : Result (Option Served) LinkFault) : Type 0 where
   pub decided : HasDecided old new a.meta bytes
-  pub became : Outcome
+  pub became : TurnOutcome
   pub answered : HasAnswered filter (outcome_of_bytes old a.meta bytes).answer (disposition_of_bytes old a.meta bytes) sends became
   pub served : result ≡ Ok (Some (record { from = a.meta.from; kind = a.kind; outcome = became; verdict = verdict_of_datagram old a.meta bytes }))
 

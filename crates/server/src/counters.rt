@@ -25,7 +25,7 @@ pub enum Kind {
 
 /// What became of a datagram that came.
 #[derive(Clone, Copy)]
-pub enum Outcome {
+pub enum TurnOutcome {
     /// This was done with it; what there was to send was sent.
     Done(Disposition),
     /// What there was to send wasn't sent, since its peer or its client is denied.
@@ -167,18 +167,18 @@ fn response_counter(response: Response) -> Counter
     }
 }
 
-impl Outcome {
+impl TurnOutcome {
     /// Returns the counter of the datagrams of a kind with this outcome.
     #[inline(always)]
     fn counter(self, kind: Kind) -> Counter
         ensures { result ≡ outcome_counter kind self }
     {
         match self {
-            Outcome::Denied => Counter::Denied,
-            Outcome::SendFailed => Counter::SendFaults,
-            Outcome::Done(Disposition::Discarded(reason)) => Counter::Discarded(kind, reason),
-            Outcome::Done(Disposition::Answered(response)) => response_counter(response),
-            Outcome::Done(Disposition::Relayed) => match kind {
+            TurnOutcome::Denied => Counter::Denied,
+            TurnOutcome::SendFailed => Counter::SendFaults,
+            TurnOutcome::Done(Disposition::Discarded(reason)) => Counter::Discarded(kind, reason),
+            TurnOutcome::Done(Disposition::Answered(response)) => response_counter(response),
+            TurnOutcome::Done(Disposition::Relayed) => match kind {
                 Kind::FromPeer => Counter::ToClients,
                 _ => Counter::ToPeers,
             },
@@ -295,7 +295,7 @@ impl Counters {
 
     /// Counts a datagram of a kind that came, with what became of it.
     #[inline(always)]
-    pub fn count(&mut self, kind: Kind, outcome: Outcome)
+    pub fn count(&mut self, kind: Kind, outcome: TurnOutcome)
         ensures counted { HasCounted kind outcome (counter_value self.old) (counter_value self.new) }
         ensures verdicts { self.new.verdicts ≡ self.old.verdicts }
     {

@@ -19,7 +19,7 @@ mod tokens;
 mod turning;
 
 pub use ahead::{Ahead, ROOM, Receipt, TURNS};
-pub use counters::{Counter, Counters, KINDS, Kind, Outcome, REASONS, VERDICTS};
+pub use counters::{Counter, Counters, KINDS, Kind, REASONS, TurnOutcome, VERDICTS};
 pub use hairpin::Hairpin;
 pub use laws::{law_each_datagram_is_counted_once, law_rounds_are_fair};
 pub use link::{Link, LinkFault, Place};

@@ -2,7 +2,7 @@
 
 ghost use Rattle.server.specs.Serving.{IsServed};
 
-use crate::counters::Outcome;
+use crate::counters::TurnOutcome;
 use crate::link::{Link, LinkFault, Place};
 use crate::recorder::Unrecorded;
 use crate::turning::{Arrival, Served, take};
@@ -41,8 +41,8 @@ pub fn serve_once<L: Link>(
         Err(LinkFault) => Err(ServeError::Receive),
         Ok(None) => Ok(None),
         Ok(Some(Served { outcome, .. })) => match outcome {
-            Outcome::Done(disposition) => Ok(Some(disposition)),
-            Outcome::SendFailed | Outcome::Denied => Err(ServeError::Send),
+            TurnOutcome::Done(disposition) => Ok(Some(disposition)),
+            TurnOutcome::SendFailed | TurnOutcome::Denied => Err(ServeError::Send),
         },
     }
 }

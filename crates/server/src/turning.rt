@@ -7,7 +7,7 @@ ghost use Rattle.server.specs.CounterValues.{counter_value, verdict_value};
 ghost use Rattle.server.specs.Turns.{IsReceived, source_at, may_answer, may_reach, outcome_of_send, IsAnswered, IsTurn, HasCountedTurn, HasCountedTurnVerdict};
 ghost use Rattle.server.specs.declared.link.LinkFault.{LinkFault};
 
-use crate::counters::{Counters, Kind, Outcome};
+use crate::counters::{Counters, Kind, TurnOutcome};
 use crate::link::{Link, LinkFault, Place};
 use crate::recorder::Recorder;
 use attributes::Addr;
@@ -34,7 +34,7 @@ pub struct Served {
     /// What it is.
     pub kind: Kind,
     /// What became of it.
-    pub outcome: Outcome,
+    pub outcome: TurnOutcome,
     /// The verdict of the program that ran over it, if one ran.
     pub verdict: Option<u64>,
 }
@@ -123,14 +123,14 @@ fn send_from<L: Link>(
     to: Addr,
     bytes: &[u8],
     done: Disposition,
-) -> Outcome
+) -> TurnOutcome
     ensures { (answer : Result (Unit {0}) LinkFault)
         × HasReported (L.calls link.old) (L.calls link.new) (Sent endpoint to bytes.now answer ∷ [])
         × (result ≡ outcome_of_send done answer) }
 {
     match link.send(endpoint, to, bytes) {
-        Ok(()) => Outcome::Done(done),
-        Err(LinkFault) => Outcome::SendFailed,
+        Ok(()) => TurnOutcome::Done(done),
+        Err(LinkFault) => TurnOutcome::SendFailed,
     }
 }
 
@@ -142,20 +142,20 @@ fn answer<L: Link>(
     filter: &Option<PeerFilter>,
     action: &Action<'_>,
     done: Disposition,
-) -> Outcome
+) -> TurnOutcome
     ensures { IsAnswered filter.now (sending_of action.now) done (L.calls link.old) (L.calls link.new) result }
 {
     match *action {
-        Action::Nothing => Outcome::Done(done),
+        Action::Nothing => TurnOutcome::Done(done),
         Action::ToPeer { slot, peer, bytes } => {
             if !may_reach(filter, &peer) {
-                return Outcome::Denied;
+                return TurnOutcome::Denied;
             }
             send_from(link, Place::Slot(slot), peer, bytes, done)
         }
         Action::ToClient { client, bytes } => {
             if !may_answer(filter, &client) {
-                return Outcome::Denied;
+                return TurnOutcome::Denied;
             }
             send_from(link, Place::Client, client, bytes, done)
         }

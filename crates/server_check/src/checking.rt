@@ -1,9 +1,10 @@
 //! The steps of a check.
 
-use crate::error::{CheckError, Step};
-use crate::exchange::{Exchange, Reply, Wanted, What};
+use crate::error::{CheckError, CheckStep};
+use crate::exchange::{Exchange, ReceivedMessage, Wanted, What};
 use crate::messages::{
-    Ask, Login, MESSAGE_BYTES, UNAUTHENTICATED, address_in, peer_of_data, response_in, write_send,
+    Login, MESSAGE_BYTES, RequestKind, UNAUTHENTICATED, address_in, peer_of_data, response_in,
+    write_send,
 };
 use attributes::{Addr, lifetime};
 use credentials::Key;
@@ -43,7 +44,12 @@ fn socket_address(address: &Addr) -> SocketAddr {
 }
 
 /// Returns the address in an attribute of a success response to a request of a step.
-fn granted(step: Step, ask: Ask, reply: &Reply, kind: u16) -> Result<Addr, CheckError> {
+fn granted(
+    step: CheckStep,
+    ask: RequestKind,
+    reply: &ReceivedMessage,
+    kind: u16,
+) -> Result<Addr, CheckError> {
     match response_in(step, ask, reply.as_bytes())? {
         (message, None) => address_in(&message, kind).ok_or(CheckError::Unexpected(step)),
         (_, Some(code)) => Err(CheckError::Refused(step, code)),
@@ -51,7 +57,11 @@ fn granted(step: Step, ask: Ask, reply: &Reply, kind: u16) -> Result<Addr, Check
 }
 
 /// Tests whether a request of a step is granted.
-fn expect_success(step: Step, ask: Ask, reply: &Reply) -> Result<(), CheckError> {
+fn expect_success(
+    step: CheckStep,
+    ask: RequestKind,
+    reply: &ReceivedMessage,
+) -> Result<(), CheckError> {
     match response_in(step, ask, reply.as_bytes())? {
         (_, None) => Ok(()),
         (_, Some(code)) => Err(CheckError::Refused(step, code)),
@@ -59,9 +69,12 @@ fn expect_success(step: Step, ask: Ask, reply: &Reply) -> Result<(), CheckError>
 }
 
 /// Returns what the requests of a user are signed with, by the response to a request without credentials.
-fn login_in<'a>(account: Account<'a>, challenge: &'a Reply) -> Result<Login<'a>, CheckError> {
-    let step = Step::Challenge;
-    let message = match response_in(step, Ask::Allocate, challenge.as_bytes())? {
+fn login_in<'a>(
+    account: Account<'a>,
+    challenge: &'a ReceivedMessage,
+) -> Result<Login<'a>, CheckError> {
+    let step = CheckStep::Challenge;
+    let message = match response_in(step, RequestKind::Allocate, challenge.as_bytes())? {
         (message, Some(UNAUTHENTICATED)) => message,
         (_, Some(code)) => return Err(CheckError::Refused(step, code)),
         (_, None) => return Err(CheckError::Unexpected(step)),
@@ -81,9 +94,9 @@ fn login_in<'a>(account: Account<'a>, challenge: &'a Reply) -> Result<Login<'a>,
 }
 
 /// Returns the lifetime that an Allocate response gives, in seconds.
-fn lifetime_in(reply: &Reply) -> Result<u32, CheckError> {
-    let step = Step::Allocate;
-    let (message, _) = response_in(step, Ask::Allocate, reply.as_bytes())?;
+fn lifetime_in(reply: &ReceivedMessage) -> Result<u32, CheckError> {
+    let step = CheckStep::Allocate;
+    let (message, _) = response_in(step, RequestKind::Allocate, reply.as_bytes())?;
     let Some(value) = message.value_of(LIFETIME) else {
         return Err(CheckError::Unexpected(step));
     };
@@ -95,8 +108,13 @@ fn bind<R: Clock + Net, G: Rng, W: Write>(
     exchange: &mut Exchange<'_, R, G>,
     out: &mut W,
 ) -> Result<Addr, CheckError> {
-    let reply = exchange.ask(Step::Binding, Ask::Binding, None)?;
-    let mapped = granted(Step::Binding, Ask::Binding, &reply, XOR_MAPPED_ADDRESS)?;
+    let reply = exchange.ask(CheckStep::Binding, RequestKind::Binding, None)?;
+    let mapped = granted(
+        CheckStep::Binding,
+        RequestKind::Binding,
+        &reply,
+        XOR_MAPPED_ADDRESS,
+    )?;
     let address = socket_address(&mapped);
     if write!(out, "this client is {address}: ").is_err() {
         return Err(CheckError::Output);
@@ -111,8 +129,13 @@ fn allocate<R: Clock + Net, G: Rng, W: Write>(
     login: &Login<'_>,
     out: &mut W,
 ) -> Result<Addr, CheckError> {
-    let reply = exchange.ask(Step::Allocate, Ask::Allocate, Some(login))?;
-    let relayed = granted(Step::Allocate, Ask::Allocate, &reply, XOR_RELAYED_ADDRESS)?;
+    let reply = exchange.ask(CheckStep::Allocate, RequestKind::Allocate, Some(login))?;
+    let relayed = granted(
+        CheckStep::Allocate,
+        RequestKind::Allocate,
+        &reply,
+        XOR_RELAYED_ADDRESS,
+    )?;
     let seconds = lifetime_in(&reply)?;
     let address = socket_address(&relayed);
     if write!(out, "{address} for {seconds} s: ").is_err() {
@@ -129,9 +152,9 @@ fn permit<R: Clock + Net, G: Rng, W: Write>(
     mapped: Addr,
     out: &mut W,
 ) -> Result<(), CheckError> {
-    let ask = Ask::Permission(mapped);
-    let reply = exchange.ask(Step::Permission, ask, Some(login))?;
-    expect_success(Step::Permission, ask, &reply)?;
+    let ask = RequestKind::Permission(mapped);
+    let reply = exchange.ask(CheckStep::Permission, ask, Some(login))?;
+    expect_success(CheckStep::Permission, ask, &reply)?;
     print(out, "CreatePermission", reply.took)
 }
 
@@ -143,13 +166,13 @@ fn send_to_relayed<R: Clock + Net, G: Rng, W: Write>(
     out: &mut W,
 ) -> Result<Addr, CheckError> {
     let wanted = Wanted {
-        step: Step::ToRelayed,
+        step: CheckStep::ToRelayed,
         from: exchange.server,
         is: What::Data(DATA),
     };
     let reply = exchange.send_until(DATA, relayed, &wanted)?;
     print(out, "a datagram to the relayed address", reply.took)?;
-    peer_of_data(reply.as_bytes(), DATA).ok_or(CheckError::Unexpected(Step::ToRelayed))
+    peer_of_data(reply.as_bytes(), DATA).ok_or(CheckError::Unexpected(CheckStep::ToRelayed))
 }
 
 /// Sends a datagram to the client itself over the relay.
@@ -165,7 +188,7 @@ fn send_from_relayed<R: Clock + Net, G: Rng, W: Write>(
         return Err(CheckError::Long);
     };
     let wanted = Wanted {
-        step: Step::FromRelayed,
+        step: CheckStep::FromRelayed,
         from: relayed,
         is: What::Bytes(DATA),
     };
@@ -179,8 +202,8 @@ fn release<R: Clock + Net, G: Rng>(
     exchange: &mut Exchange<'_, R, G>,
     login: &Login<'_>,
 ) -> Result<(), CheckError> {
-    let reply = exchange.ask(Step::Release, Ask::Release, Some(login))?;
-    expect_success(Step::Release, Ask::Release, &reply)
+    let reply = exchange.ask(CheckStep::Release, RequestKind::Release, Some(login))?;
+    expect_success(CheckStep::Release, RequestKind::Release, &reply)
 }
 
 /// Sends data over an allocation: to the relayed address, and from it.
@@ -205,7 +228,7 @@ fn check_user<R: Clock + Net, G: Rng, W: Write>(
     mapped: Addr,
     out: &mut W,
 ) -> Result<(), CheckError> {
-    let challenge = exchange.ask(Step::Challenge, Ask::Allocate, None)?;
+    let challenge = exchange.ask(CheckStep::Challenge, RequestKind::Allocate, None)?;
     let login = login_in(account, &challenge)?;
     let relayed = allocate(exchange, &login, out)?;
     let relays = relay(exchange, &login, mapped, relayed, out);

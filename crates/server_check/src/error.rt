@@ -4,7 +4,7 @@ use thiserror::Error;
 
 /// A step of a check.
 #[derive(Clone, Copy, Debug, PartialEq, Eq, Error)]
-pub enum Step {
+pub enum CheckStep {
     /// A Binding request: the address of the client as the server sees it.
     #[error("Binding")]
     Binding,
@@ -33,13 +33,13 @@ pub enum Step {
 pub enum CheckError {
     /// Nothing came for a step, however often it was sent.
     #[error("no answer to {0}")]
-    NoAnswer(Step),
+    NoAnswer(CheckStep),
     /// The server answers a step with this error code.
     #[error("{0}: error {1}")]
-    Refused(Step, u16),
+    Refused(CheckStep, u16),
     /// The response to a step isn't one that a server gives.
     #[error("{0}: not a response to it")]
-    Unexpected(Step),
+    Unexpected(CheckStep),
     /// A name, a realm and a nonce don't fit a request.
     #[error("a request is too long: see the name of the user")]
     Long,

@@ -1,7 +1,7 @@
 //! Datagrams that are sent until something comes back.
 
-use crate::error::{CheckError, Step};
-use crate::messages::{Ask, Login, MESSAGE_BYTES, is_of, peer_of_data, write_request};
+use crate::error::{CheckError, CheckStep};
+use crate::messages::{Login, MESSAGE_BYTES, RequestKind, is_of, peer_of_data, write_request};
 use rand::Rng;
 use std::io::ErrorKind;
 use std::net::{Net, SocketAddr, UdpSocket};
@@ -16,13 +16,13 @@ const MOST_OTHERS: usize = 1_000;
 
 /// What came back, and after how long.
 #[derive(Drop)]
-pub(crate) struct Reply {
+pub(crate) struct ReceivedMessage {
     bytes: [u8; MESSAGE_BYTES],
     len: usize,
     pub(crate) took: Duration,
 }
 
-impl Reply {
+impl ReceivedMessage {
     /// Returns the bytes of the datagram.
     pub(crate) fn as_bytes(&self) -> &[u8] {
         self.bytes.get(..self.len).unwrap_or(&[])
@@ -32,7 +32,7 @@ impl Reply {
 /// What is waited for.
 #[derive(Clone, Copy)]
 pub(crate) struct Wanted<'a> {
-    pub(crate) step: Step,
+    pub(crate) step: CheckStep,
     /// From where it comes.
     pub(crate) from: SocketAddr,
     pub(crate) is: What<'a>,
@@ -157,7 +157,7 @@ impl<'a, R: Clock + Net, G: Rng> Exchange<'a, R, G> {
         datagram: &[u8],
         to: SocketAddr,
         wanted: &Wanted<'_>,
-    ) -> Result<Reply, CheckError> {
+    ) -> Result<ReceivedMessage, CheckError> {
         let mut bytes = [0; MESSAGE_BYTES];
         for wait in WAITS {
             let (sent, wait) = (self.now()?, Duration::from_millis(wait));
@@ -166,7 +166,7 @@ impl<'a, R: Clock + Net, G: Rng> Exchange<'a, R, G> {
             }
             if let Some(len) = self.wait(wanted, sent.saturating_add(wait), &mut bytes)? {
                 let took = self.now()?.saturating_sub(sent);
-                return Ok(Reply { bytes, len, took });
+                return Ok(ReceivedMessage { bytes, len, took });
             }
         }
         Err(CheckError::NoAnswer(wanted.step))
@@ -178,10 +178,10 @@ impl<'a, R: Clock + Net, G: Rng> Exchange<'a, R, G> {
     /// Those of [`send_until`](Exchange::send_until), and `Long`.
     pub(crate) fn ask(
         &mut self,
-        step: Step,
-        ask: Ask,
+        step: CheckStep,
+        ask: RequestKind,
         login: Option<&Login<'_>>,
-    ) -> Result<Reply, CheckError> {
+    ) -> Result<ReceivedMessage, CheckError> {
         let tx = self.draw();
         let mut request = [0; MESSAGE_BYTES];
         let Ok(len) = write_request(ask, login, tx, &mut request) else {

@@ -8,4 +8,4 @@ mod exchange;
 mod messages;
 
 pub use checking::{Account, check};
-pub use error::{CheckError, Step};
+pub use error::{CheckError, CheckStep};

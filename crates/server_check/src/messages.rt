@@ -1,6 +1,6 @@
 //! The messages of a check (RFC 8489; RFC 8656).
 
-use crate::error::{CheckError, Step};
+use crate::error::{CheckError, CheckStep};
 use attributes::{Addr, read_xor_addr, write_xor_addr};
 use credentials::{Key, sign};
 use stun::registry::attribute::{
@@ -29,7 +29,7 @@ pub(crate) struct Login<'a> {
 
 /// A request of a check.
 #[derive(Clone, Copy)]
-pub(crate) enum Ask {
+pub(crate) enum RequestKind {
     Binding,
     Allocate,
     /// A permission for an address.
@@ -38,24 +38,24 @@ pub(crate) enum Ask {
     Release,
 }
 
-impl Ask {
+impl RequestKind {
     /// Returns the method.
     pub(crate) fn method(self) -> Method {
         match self {
-            Ask::Binding => Method::Binding,
-            Ask::Allocate => Method::Allocate,
-            Ask::Permission(_) => Method::CreatePermission,
-            Ask::Release => Method::Refresh,
+            RequestKind::Binding => Method::Binding,
+            RequestKind::Allocate => Method::Allocate,
+            RequestKind::Permission(_) => Method::CreatePermission,
+            RequestKind::Release => Method::Refresh,
         }
     }
 
     /// Appends the attributes of the request, without those of a user.
     fn push_values(self, builder: &mut Builder<'_>) -> Result<(), NoRoom> {
         match self {
-            Ask::Binding => Ok(()),
-            Ask::Allocate => builder.attr(REQUESTED_TRANSPORT, &UDP),
-            Ask::Permission(peer) => write_xor_addr(builder, XOR_PEER_ADDRESS, &peer),
-            Ask::Release => builder.attr(LIFETIME, &[0; 4]),
+            RequestKind::Binding => Ok(()),
+            RequestKind::Allocate => builder.attr(REQUESTED_TRANSPORT, &UDP),
+            RequestKind::Permission(peer) => write_xor_addr(builder, XOR_PEER_ADDRESS, &peer),
+            RequestKind::Release => builder.attr(LIFETIME, &[0; 4]),
         }
     }
 }
@@ -73,7 +73,7 @@ fn push_login(builder: &mut Builder<'_>, login: &Login<'_>) -> Result<(), NoRoom
 /// # Errors
 /// Where it doesn't fit.
 pub(crate) fn write_request(
-    ask: Ask,
+    ask: RequestKind,
     login: Option<&Login<'_>>,
     tx: [u8; 12],
     buffer: &mut [u8],
@@ -145,8 +145,8 @@ fn code_of(message: &Message<'_>) -> u16 {
 /// # Errors
 /// `Unexpected` where a datagram isn't one.
 pub(crate) fn response_in(
-    step: Step,
-    ask: Ask,
+    step: CheckStep,
+    ask: RequestKind,
     datagram: &[u8],
 ) -> Result<(Message<'_>, Option<u16>), CheckError> {
     let Ok(message) = read(datagram) else {
