@@ -24,7 +24,6 @@ use rules::{Answer, Confinement, Discard, answer_client, discard_by_rules};
 use std::alloc::Global;
 use std::marker::Model;
 use tables::{Count, Tables, Uncounted, is_ipv4, moment_of};
-use verifier::Verified;
 
 /// A relay: its configuration, the programs of both sides, what confines them, and its tables.
 /// See docs/DECISIONS.md, "The greatest moment is the relay's".
@@ -88,7 +87,6 @@ impl Relay {
     ghost use Rattle.tables.specs.Addresses.{is_ipv4};
     ghost use Rattle.semantics.specs.declared.limits.TheConstants.{MAX_DATAGRAM};
     ghost use Rattle.events.specs.Actions.{sending_of};
-    ghost use Rattle.relay.specs.ByPrograms.{program_for};
     ghost use Rattle.relay.specs.Errors.{IsFault};
     ghost use Rattle.machine.specs.Contents.{datagram_of};
     ghost use Rattle.rules.specs.Answers.{sending_of_answer, LiesInRoom};
@@ -187,13 +185,6 @@ impl Relay {
         ensures { result.now ≡ self.now.programs.confinement }
     {
         &self.confinement
-    }
-
-    /// Returns the program of the side of a source.
-    pub fn program_of(&self, from: &Source) -> &Verified
-        ensures { result.now ≡ program_for self.now.programs from.now }
-    {
-        program_for(&self.client, &self.peer, from)
     }
 
     /// Returns the number of slots.
