@@ -1,7 +1,10 @@
-//! How counters are named and printed, and the faults that were printed.
+//! How counters are printed, and the faults that were printed.
 
+use crate::names::{
+    DISCARDED, NamedCounter, RECEIVE_FAULTS, RECEIVED, RELAYED, RESPONSES, SEND_FAULTS, reason_name,
+};
 use relay::Discard;
-use server::{Counter, Counters, KINDS, Kind, REASONS};
+use server::{Counter, Counters, Kind, REASONS};
 use std::fmt;
 
 /// Receives and sends that failed. Displays as a part of a line.
@@ -19,24 +22,6 @@ pub(crate) struct CounterLine<'a> {
     pub(crate) dropped: Option<u64>,
 }
 
-/// Returns the name of a reason to discard a datagram.
-pub(crate) fn reason_name(reason: Discard) -> &'static str {
-    match reason {
-        Discard::NotServed => "not_served",
-        Discard::ByProgram => "by_program",
-        Discard::Malformed => "malformed",
-        Discard::NoRequest => "no_request",
-        Discard::NoAllocation => "no_allocation",
-        Discard::NoChannel => "no_channel",
-        Discard::UnknownAttribute => "unknown_attribute",
-        Discard::Incomplete => "incomplete",
-        Discard::NoPermission => "no_permission",
-        Discard::OtherFamily => "other_family",
-        Discard::TooLong => "too_long",
-        Discard::Confined => "confined",
-    }
-}
-
 /// Returns how many datagrams of a kind were discarded.
 fn discarded_of(counters: &Counters, kind: Kind) -> u64 {
     let mut sum: u64 = 0;
@@ -49,8 +34,8 @@ fn discarded_of(counters: &Counters, kind: Kind) -> u64 {
 /// Returns how many datagrams were discarded for a reason.
 fn discarded_for(counters: &Counters, reason: Discard) -> u64 {
     let mut sum: u64 = 0;
-    for kind in KINDS {
-        sum = sum.saturating_add(counters.get(Counter::Discarded(kind, reason)));
+    for named in DISCARDED {
+        sum = sum.saturating_add(counters.get(Counter::Discarded(named.kind, reason)));
     }
     sum
 }
@@ -65,8 +50,8 @@ impl Faults {
     /// Returns the faults that were counted.
     pub(crate) fn of(counters: &Counters) -> Faults {
         Faults {
-            receive: counters.get(Counter::ReceiveFaults),
-            send: counters.get(Counter::SendFaults),
+            receive: counters.get(RECEIVE_FAULTS.counter),
+            send: counters.get(SEND_FAULTS.counter),
         }
     }
 
@@ -83,47 +68,43 @@ impl fmt::Display for Faults {
     fn fmt<W: fmt::Write>(&self, f: &mut fmt::Formatter<W>) -> fmt::Result {
         write!(
             f,
-            "receive faults {} send faults {}",
-            self.receive, self.send
+            "{} {} {} {}",
+            RECEIVE_FAULTS.words, self.receive, SEND_FAULTS.words, self.send
         )
     }
 }
 
 impl CounterLine<'_> {
-    /// Writes the datagrams that came and that were relayed, and the responses to requests.
-    fn write_handled<W: fmt::Write>(&self, f: &mut fmt::Formatter<W>) -> fmt::Result {
-        let counters = self.counters;
-        write!(
-            f,
-            "received from clients {} peers {}, relayed to peers {} clients {}, ",
-            counters.get(Counter::FromClients),
-            counters.get(Counter::FromPeers),
-            counters.get(Counter::ToPeers),
-            counters.get(Counter::ToClients)
-        )?;
-        write!(
-            f,
-            "granted {} challenged {} unauthenticated {} refused {}, ",
-            counters.get(Counter::Granted),
-            counters.get(Counter::Challenged),
-            counters.get(Counter::Unauthenticated),
-            counters.get(Counter::Refused)
-        )
+    /// Writes counters.
+    fn write_counters<W: fmt::Write>(
+        &self,
+        f: &mut fmt::Formatter<W>,
+        counters: &[NamedCounter],
+    ) -> fmt::Result {
+        let mut before = "";
+        for named in counters {
+            let value = self.counters.get(named.counter);
+            write!(f, "{before}{} {value}", named.words)?;
+            before = " ";
+        }
+        write!(f, ", ")
     }
 
-    /// Writes the datagrams that were discarded, by their kinds, and the others that weren't sent.
+    /// Writes the datagrams that were discarded, by their kinds.
+    fn write_discarded<W: fmt::Write>(&self, f: &mut fmt::Formatter<W>) -> fmt::Result {
+        let mut before = "";
+        for named in DISCARDED {
+            let value = discarded_of(self.counters, named.kind);
+            write!(f, "{before}{} {value}", named.words)?;
+            before = " ";
+        }
+        write!(f, ", ")
+    }
+
+    /// Writes what else wasn't sent, and what was dropped.
     fn write_unsent<W: fmt::Write>(&self, f: &mut fmt::Formatter<W>) -> fmt::Result {
-        let counters = self.counters;
-        write!(
-            f,
-            "discarded channel data {} messages {} others {} from peers {}, {}, denied {} ",
-            discarded_of(counters, Kind::ChannelData),
-            discarded_of(counters, Kind::Message),
-            discarded_of(counters, Kind::Other),
-            discarded_of(counters, Kind::FromPeer),
-            Faults::of(counters),
-            counters.get(Counter::Denied)
-        )?;
+        let denied = self.counters.get(Counter::Denied);
+        write!(f, "{}, denied {denied} ", Faults::of(self.counters))?;
         match self.dropped {
             Some(dropped) => write!(f, "dropped {dropped}"),
             None => write!(f, "dropped unknown"),
@@ -143,7 +124,10 @@ impl CounterLine<'_> {
 
 impl fmt::Display for CounterLine<'_> {
     fn fmt<W: fmt::Write>(&self, f: &mut fmt::Formatter<W>) -> fmt::Result {
-        self.write_handled(f)?;
+        self.write_counters(f, &RECEIVED)?;
+        self.write_counters(f, &RELAYED)?;
+        self.write_counters(f, &RESPONSES)?;
+        self.write_discarded(f)?;
         self.write_unsent(f)?;
         self.write_reasons(f)
     }

@@ -5,6 +5,7 @@ mod counters;
 mod drops;
 mod error_lines;
 mod metrics;
+mod names;
 mod recording;
 mod reports;
 mod server_log;

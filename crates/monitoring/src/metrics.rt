@@ -1,9 +1,12 @@
 //! The metrics of a server, in the text format of Prometheus, for the textfile collector of its node_exporter.
 
-use crate::counters::reason_name;
+use crate::names::{
+    DISCARDED, NamedCounter, NamedKind, RECEIVE_FAULTS, RECEIVED, RELAYED, RESPONSES, SEND_FAULTS,
+    reason_name,
+};
 use crate::watching::side_name;
 use machine::Side;
-use server::{Counter, Counters, KINDS, Kind, REASONS, Timer, VERDICTS};
+use server::{Counter, Counters, REASONS, Timer, VERDICTS};
 use shadow::{Comparison, DIFFERENCES, Deed, Shadows};
 use std::alloc::{AllocError, Global};
 use std::fs;
@@ -67,16 +70,6 @@ pub struct MetricsFile<'a> {
     timer: Timer,
     /// Whether the last write failed.
     is_failing: bool,
-}
-
-/// Returns the name of a kind of datagrams.
-fn kind_name(kind: Kind) -> &'static str {
-    match kind {
-        Kind::ChannelData => "channel_data",
-        Kind::Message => "message",
-        Kind::Other => "other",
-        Kind::FromPeer => "from_peer",
-    }
 }
 
 /// Returns the label of a difference between a program and its shadow.
@@ -222,39 +215,28 @@ impl Metrics<'_> {
         out: &mut W,
         family: &MetricFamily,
         label: &'static str,
-        counters: &[(&'static str, Counter)],
+        counters: &[NamedCounter],
     ) -> io::Result<()> {
         family.write_head(out)?;
-        for (text, counter) in counters {
-            let value = self.counters.get(*counter);
-            self.write_sample(out, family, &[(label, *text)], value)?;
+        for named in counters {
+            let value = self.counters.get(named.counter);
+            self.write_sample(out, family, &[(label, named.label)], value)?;
         }
         Ok(())
     }
 
     /// Writes what was received, and what was sent.
     fn write_handled<W: Write>(&self, out: &mut W) -> io::Result<()> {
-        let from = [
-            ("clients", Counter::FromClients),
-            ("peers", Counter::FromPeers),
-        ];
-        self.write_each(out, &MetricFamily::RECEIVED, "from", &from)?;
-        let to = [("peers", Counter::ToPeers), ("clients", Counter::ToClients)];
-        self.write_each(out, &MetricFamily::RELAYED, "to", &to)?;
-        let results = [
-            ("granted", Counter::Granted),
-            ("challenged", Counter::Challenged),
-            ("unauthenticated", Counter::Unauthenticated),
-            ("refused", Counter::Refused),
-        ];
-        self.write_each(out, &MetricFamily::RESPONSES, "result", &results)
+        self.write_each(out, &MetricFamily::RECEIVED, "from", &RECEIVED)?;
+        self.write_each(out, &MetricFamily::RELAYED, "to", &RELAYED)?;
+        self.write_each(out, &MetricFamily::RESPONSES, "result", &RESPONSES)
     }
 
     /// Writes the datagrams of a kind that were discarded.
-    fn write_discarded<W: Write>(&self, out: &mut W, kind: Kind) -> io::Result<()> {
+    fn write_discarded<W: Write>(&self, out: &mut W, named: &NamedKind) -> io::Result<()> {
         for reason in REASONS {
-            let value = self.counters.get(Counter::Discarded(kind, reason));
-            let labels = [("kind", kind_name(kind)), ("reason", reason_name(reason))];
+            let value = self.counters.get(Counter::Discarded(named.kind, reason));
+            let labels = [("kind", named.label), ("reason", reason_name(reason))];
             self.write_sample(out, &MetricFamily::DISCARDED, &labels, value)?;
         }
         Ok(())
@@ -263,18 +245,15 @@ impl Metrics<'_> {
     /// Writes what wasn't sent, and what failed.
     fn write_unsent<W: Write>(&self, out: &mut W) -> io::Result<()> {
         MetricFamily::DISCARDED.write_head(out)?;
-        for kind in KINDS {
-            self.write_discarded(out, kind)?;
+        for named in &DISCARDED {
+            self.write_discarded(out, named)?;
         }
         self.write_one(
             out,
             &MetricFamily::DENIED,
             self.counters.get(Counter::Denied),
         )?;
-        let calls = [
-            ("receive", Counter::ReceiveFaults),
-            ("send", Counter::SendFaults),
-        ];
+        let calls = [RECEIVE_FAULTS, SEND_FAULTS];
         self.write_each(out, &MetricFamily::FAULTS, "call", &calls)
     }
 
