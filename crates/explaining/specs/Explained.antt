@@ -37,8 +37,3 @@ IsDrawnCode code (Some e) = (IsMemoryRefusal (Verify e) → ⊥) × MayRefuse co
 abbrev pub explain_error_text : ExplainError → List ℕ
 explain_error_text error.Output = codes "cannot write output"
 explain_error_text error.Memory = codes "out of memory"
-
--- the exit status of an error: 3 where the output fails, 4 where memory runs out
-abbrev pub explain_status : ExplainError → ℕ
-explain_status error.Output = 3
-explain_status error.Memory = 4

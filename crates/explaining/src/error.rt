@@ -1,7 +1,7 @@
-//! Why a file is not explained, with the line and the exit status of each error.
+//! Why a file is not explained, with the line of each error.
 
 ghost use Rattle.std.specs.Prelude.{◌≡◌, Some};
-ghost use Rattle.explaining.specs.Explained.{explain_error_text, explain_status};
+ghost use Rattle.explaining.specs.Explained.{explain_error_text};
 ghost use Rattle.explaining.specs.declared.error.ExplainError.TheVariants.{Memory};
 
 use std::alloc::AllocError;
@@ -15,18 +15,6 @@ pub enum ExplainError {
     Output,
     /// Memory ran out.
     Memory,
-}
-
-impl ExplainError {
-    /// Returns the exit status: 3 where the output fails, 4 where memory runs out.
-    pub fn status(self) -> u8
-        ensures { result ≡ explain_status self }
-    {
-        match self {
-            ExplainError::Output => 3,
-            ExplainError::Memory => 4,
-        }
-    }
 }
 
 impl fmt::Display for ExplainError {

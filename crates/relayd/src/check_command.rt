@@ -1,6 +1,6 @@
 //! Checking a server as a client does.
 
-use crate::options::CommandError;
+use crate::error::{CommandError, end};
 use command_line::ValueError;
 use rand::make_rng;
 use rand::rngs::StdRng;
@@ -34,12 +34,6 @@ fn address_of<R: Net>(rt: &R, server: &str) -> Option<SocketAddr> {
     found
 }
 
-/// Prints why a command ends, and returns its exit status.
-pub(crate) fn end<E: Write>(err: &mut E, error: CommandError<'_>) -> u8 {
-    let _ = writeln!(err, "{error}");
-    error.status()
-}
-
 /// Checks the server at an address, or at a name, and a port, with an allocation where a user is given. Prints what works, and
 /// returns the exit status.
 pub(crate) fn check<R: Net + Clock + Print + RandomSource + AllocGlobal, E: Write>(
@@ -61,9 +55,6 @@ pub(crate) fn check<R: Net + Clock + Print + RandomSource + AllocGlobal, E: Writ
     };
     match check_server(rt, &mut rng, address, account, &mut io::writer(rt)) {
         Ok(()) => 0,
-        Err(error) => {
-            let _ = writeln!(err, "{error}");
-            error.status()
-        }
+        Err(error) => end(err, CommandError::Check(error)),
     }
 }

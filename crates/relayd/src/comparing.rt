@@ -2,7 +2,8 @@
 
 ghost use Rattle.std.specs.Prelude.{◌≡◌, false};
 
-use crate::options::{CommandError, unread};
+use crate::error::CommandError;
+use crate::options::unread;
 use crate::replay_command::replay_fault;
 use basics::streams::{self, Output};
 use relay::{Relay, next_line};

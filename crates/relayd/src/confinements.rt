@@ -1,6 +1,6 @@
 //! What confines the programs, by the options.
 
-use crate::options::CommandError;
+use crate::error::CommandError;
 use command_line::{Options, ValueError};
 use relay::{Alias, Confinement};
 use setup::alias;

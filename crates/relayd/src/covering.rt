@@ -2,7 +2,8 @@
 
 ghost use Rattle.std.specs.Prelude.{◌≡◌, false, OnOk};
 
-use crate::options::{CommandError, Prepared, ProgramBytes};
+use crate::error::CommandError;
+use crate::options::{Prepared, ProgramBytes};
 use crate::replay_command::{Maps, replay_fault};
 use crate::reports::print_annotated;
 use basics::streams::{Input, Output};

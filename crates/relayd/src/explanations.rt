@@ -1,8 +1,9 @@
 //! The commands `explain` and `graph`: print what the verifier knew of a program, and draw its blocks.
 
-use crate::options::{CommandError, status_of, unread};
+use crate::error::{CommandError, REFUSED, status_of};
+use crate::options::unread;
 use crate::reports::{map_of, print_annotated, read_lines};
-use crate::{REFUSED, note_object_file, read_whole};
+use crate::{note_object_file, read_whole};
 use explaining::{ExplainError, Explained, explain_file, graph_file};
 use loader::LoadError;
 use report::{SourceMap, annotated};

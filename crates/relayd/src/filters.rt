@@ -1,6 +1,6 @@
 //! The peers that a server sends nothing to, by its options.
 
-use crate::options::CommandError;
+use crate::error::CommandError;
 use command_line::{Options, ServerOptions, ValueError};
 use peer_filter::{Action, FilterError, MAX_RULES, Network, PeerFilter, Rule, ServerAddresses};
 use sockets::Addresses;

@@ -8,6 +8,7 @@ mod clock;
 mod comparing;
 mod confinements;
 mod covering;
+mod error;
 mod explanations;
 mod filters;
 mod options;
@@ -19,7 +20,8 @@ mod starting;
 mod trace_command;
 mod writing;
 
-use crate::check_command::{check, end};
+use crate::check_command::check;
+use crate::error::{BAD_LINE, CommandError, end};
 use crate::explanations::{explain, graph};
 use crate::options_file::further_words;
 use crate::replay_command::replay;
@@ -29,8 +31,8 @@ use crate::trace_command::{Traced, trace};
 use crate::writing::{NewFiles, assemble_file, reorder_file};
 use clap::ArgMatches;
 use clap::error::ErrorKind as LineErrorKind;
-use command_line::{Subcommand, ValueError, line, subcommand_of};
-use report::{Ask, ReportError, fail};
+use command_line::{Subcommand, line, subcommand_of};
+use report::Ask;
 use std::alloc::{AllocError, Global};
 use std::fs::File;
 use std::io::{self, Read, Write};
@@ -40,19 +42,13 @@ use std::random::RandomSource;
 use std::rt::{Clock, Env, Files};
 use std::{env, fs};
 
-/// The exit status of a bad command line.
-const BAD_LINE: u8 = 2;
-
-/// The exit status of a refusal.
-const REFUSED: u8 = 1;
-
 /// Prints an error of the command line, or the help text that it requests, and returns the exit status.
 fn report_line<R: Print + Eprint, E: Write>(rt: &R, err: &mut E, error: &clap::Error) -> u8 {
     if error.kind() == LineErrorKind::OutOfMemory {
-        return fail(err, ReportError::Memory);
+        return end(err, CommandError::Memory);
     }
     if error.print(rt).is_err() {
-        return fail(err, ReportError::Output);
+        return end(err, CommandError::Output);
     }
     if error.use_stderr() { BAD_LINE } else { 0 }
 }
@@ -87,12 +83,6 @@ fn note_object_file<E: Write>(err: &mut E, file: &[u8]) {
     }
 }
 
-/// Prints that the text of an option is no value of it, and returns the exit status.
-fn report_value<E: Write>(err: &mut E, error: ValueError<'_>) -> u8 {
-    let _ = writeln!(err, "{error}");
-    BAD_LINE
-}
-
 /// Runs the subcommand of a parsed command line and returns the exit status.
 fn run_subcommand<
     R: Files<File = File> + Input + Print + Net + Clock + RandomSource + AllocGlobal,
@@ -101,7 +91,7 @@ fn run_subcommand<
     let subcommand = match subcommand_of(matches) {
         Ok(Some(subcommand)) => subcommand,
         Ok(None) => return BAD_LINE,
-        Err(error) => return report_value(err, error),
+        Err(error) => return end(err, CommandError::Value(error)),
     };
     match subcommand {
         Subcommand::Verify { file, lines } => verify_file(rt, err, file, lines),
@@ -180,14 +170,14 @@ fn run<
         Err(_) => Err(AllocError),
     };
     let Ok(words) = words else {
-        return fail(err, ReportError::Memory);
+        return end(err, CommandError::Memory);
     };
     let further = match further_words(rt, &words) {
         Ok(further) => further,
         Err(error) => return end(err, error),
     };
     let Ok(all) = joined(rt.alloc(), &words, &further) else {
-        return fail(err, ReportError::Memory);
+        return end(err, CommandError::Memory);
     };
     match line(rt.alloc(), all.as_slice()) {
         Err(error) => report_line(rt, err, &error),

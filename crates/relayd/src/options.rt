@@ -1,164 +1,18 @@
-//! Options that set up a relay, and why a command that takes them ends early.
+//! Options that set up a relay.
 
 use crate::confinements::confinement_of;
-use asm::AsmError;
-use command_line::{OptionFault, Options, RelayedError, ValueError};
+use crate::error::CommandError;
+use command_line::{Options, ValueError};
 use credentials::User;
 use machine::Side;
-use monitoring::RecordError;
-use peer_filter::{FilterError, NetworkError};
 use programs::{CLIENT, PEER};
 use relay::Relay;
-use report::{MapError, ReportError};
 use setup::{
-    LineFault, ProgramError, RefusedProgram, RevokedError, Secrets, SecretsError, Setup,
-    SetupError, UsersError, add_users, add_users_of_lines, relay_of, revoked_in, secrets_in,
+    ProgramError, RefusedProgram, RevokedError, Secrets, SecretsError, Setup, SetupError,
+    UsersError, add_users, add_users_of_lines, relay_of, revoked_in, secrets_in,
 };
-use sockets::BindErrorKind;
-use std::io::Write;
-use std::net::SocketAddr;
 use std::rt::Files;
 use std::{fs, io};
-use tables::TableError;
-use thiserror::Error;
-
-/// Why a command ends early. Displays as the line for standard error.
-#[derive(Clone, Copy, Debug, Error)]
-pub(crate) enum CommandError<'a> {
-    /// The text of an option is no value of it.
-    #[error("{0}")]
-    Value(ValueError<'a>),
-    /// The text of an option is no network.
-    #[error("error: invalid value '{text}' for '{option}': {error}")]
-    Network {
-        option: &'static str,
-        text: &'a str,
-        error: NetworkError,
-    },
-    /// There are too many networks.
-    #[error("error: {0} of '--deny <NETWORK>' and '--allow <NETWORK>'")]
-    Filter(FilterError),
-    /// There are too many addresses that count as others.
-    #[error("error: more than 16 of '--same-as <A=B>'")]
-    Aliases,
-    /// Addresses count as others, and the programs are not confined.
-    #[error("error: '--same-as <A=B>' needs confined programs")]
-    Unconfined,
-    /// A server has no relayed address.
-    #[error("{0}")]
-    Relayed(RelayedError),
-    /// Peers can't send to the relayed IPv4 address.
-    #[error("refused ip")]
-    RelayedAddress,
-    /// Peers can't send to the relayed IPv6 address.
-    #[error("refused ip6")]
-    RelayedAddress6,
-    /// Neither a user nor a secret is given.
-    #[error("error: '--user <NAME:PASSWORD>', '--users <FILE>' or '--secret <FILE>' is required")]
-    NoUsers,
-    /// The line of this number in the file of users, from 1 on, is no user's.
-    #[error("refused users at line {0}: {1}")]
-    Users(u64, LineFault),
-    /// The file of the secret has a third line.
-    #[error("refused secret at line 3")]
-    Secret,
-    /// The file of revoked users has a line that names none.
-    #[error("refused revoked users at {0}")]
-    Revoked(RevokedError),
-    /// The line of this number in the file of options, from 1 on, is no option's.
-    #[error("refused options at line {0}: {1}")]
-    OptionLine(u64, OptionFault),
-    /// The text of a program is refused.
-    #[error("refused {0}")]
-    Text(AsmError),
-    /// A report is refused.
-    #[error("{0}")]
-    Report(ReportError),
-    /// An allocation can't have the permission or the channel of a text.
-    #[error("refused {0}: {1}")]
-    Row(&'a str, TableError),
-    /// A text is no source map of a program.
-    #[error("refused lines {0}")]
-    Lines(MapError),
-    /// A file can't be read.
-    #[error("cannot read {0}")]
-    File(&'a str),
-    /// The program in a file is refused.
-    #[error("{0}")]
-    Program(RefusedProgram<'a>),
-    /// The relay can't be set up.
-    #[error("{0}")]
-    Setup(SetupError),
-    /// A server isn't found: it has no address, or no port.
-    #[error("cannot find {0}")]
-    Server(&'a str),
-    /// A socket can't be bound to this address.
-    #[error("cannot bind {0}\n{1}")]
-    Bind(SocketAddr, BindErrorKind),
-    /// The file of a record can't be made.
-    #[error("cannot record to {0}\n{1}")]
-    Record(&'a str, RecordError),
-    /// The system doesn't say which sockets are ready.
-    #[error("cannot wait for sockets")]
-    Wait,
-    /// The system gives no random numbers.
-    #[error("cannot draw random numbers")]
-    Random,
-    /// The line of this number, from 1 on, isn't there, or its event is no datagram.
-    #[error("no datagram at line {0}")]
-    NoRun(u64),
-    /// The line of this number, from 1 on, is no event's.
-    #[error("refused line {0}")]
-    Line(u64),
-    /// The file of the metrics can't be written.
-    #[error("cannot write {0}")]
-    Unwritable(&'a str),
-    /// The output can't be written.
-    #[error("cannot write output")]
-    Output,
-    /// Memory ran out.
-    #[error("out of memory")]
-    Memory,
-}
-
-impl CommandError<'_> {
-    /// Returns the exit status.
-    pub(crate) fn status(&self) -> u8 {
-        match self {
-            CommandError::Users(..)
-            | CommandError::OptionLine(..)
-            | CommandError::Secret
-            | CommandError::Revoked(_)
-            | CommandError::Text(_)
-            | CommandError::Lines(_)
-            | CommandError::Report(_)
-            | CommandError::Row(..)
-            | CommandError::NoRun(_)
-            | CommandError::Program(_)
-            | CommandError::Setup(_)
-            | CommandError::Line(_) => 1,
-            CommandError::RelayedAddress | CommandError::RelayedAddress6 => 1,
-            CommandError::Value(_) | CommandError::Network { .. } | CommandError::Filter(_) => 2,
-            CommandError::Aliases | CommandError::Unconfined => 2,
-            CommandError::NoUsers | CommandError::Relayed(_) => 2,
-            CommandError::File(_) | CommandError::Unwritable(_) | CommandError::Output => 3,
-            CommandError::Bind(..) | CommandError::Record(..) | CommandError::Server(_) => 3,
-            CommandError::Wait | CommandError::Random => 3,
-            CommandError::Memory => 4,
-        }
-    }
-}
-
-/// Prints the line of a fault to `err`, if a command has one, and returns the exit status.
-pub(crate) fn status_of<E: Write>(err: &mut E, ended: Result<u8, CommandError<'_>>) -> u8 {
-    match ended {
-        Ok(status) => status,
-        Err(fault) => {
-            let _ = writeln!(err, "{fault}");
-            fault.status()
-        }
-    }
-}
 
 /// Returns the fault of a failed read of a file.
 /// See docs/DECISIONS.md, "File names as given".

@@ -1,6 +1,7 @@
 //! The file of `--options`.
 
-use crate::options::{CommandError, unread};
+use crate::error::CommandError;
+use crate::options::unread;
 use command_line::option_of_line;
 use std::alloc::{AllocError, Global};
 use std::fs;

@@ -2,7 +2,8 @@
 
 use crate::comparing::compare_file;
 use crate::covering::{cover_events, trace_event};
-use crate::options::{CommandError, Prepared, ProgramBytes, Relayed, set_up, unread};
+use crate::error::{CommandError, end};
+use crate::options::{Prepared, ProgramBytes, Relayed, set_up, unread};
 use crate::reports::{map_of, read_lines};
 use basics::streams::{self, Output};
 use command_line::{Options, ReplayOptions, defaults};
@@ -214,9 +215,6 @@ pub(crate) fn replay<R: Files + Input + Print + AllocGlobal, E: Write>(
 ) -> u8 {
     match replay_events(rt, err, replay, options) {
         Ok(()) => 0,
-        Err(fault) => {
-            let _ = writeln!(err, "{fault}");
-            fault.status()
-        }
+        Err(error) => end(err, error),
     }
 }

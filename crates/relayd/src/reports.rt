@@ -1,7 +1,8 @@
 //! The commands `verify`, `trace` and `disassemble`: reports on the program in a file, with the lines of its source.
 
-use crate::options::{CommandError, status_of, unread};
-use crate::{REFUSED, read_whole};
+use crate::error::{CommandError, REFUSED, status_of};
+use crate::options::unread;
+use crate::read_whole;
 use basics::streams::Output;
 use report::{Ask, MapError, SourceMap, annotated, report};
 use std::alloc::Global;

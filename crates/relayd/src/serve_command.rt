@@ -2,8 +2,9 @@
 
 use crate::chores::Chore;
 use crate::clock::{elapsed, moment};
+use crate::error::{CommandError, end};
 use crate::filters::peer_options;
-use crate::options::{CommandError, Relayed};
+use crate::options::Relayed;
 use crate::starting::{give_shadows, shadows_of, start};
 use arrayvec::ArrayVec;
 use command_line::{Options, ServerOptions};
@@ -576,9 +577,6 @@ pub fn serve<R: Files<File = File> + Print + Net + Clock + RandomSource + AllocG
 ) -> u8 {
     match serve_sockets(rt, err, server_options, options) {
         Ok(()) => 0,
-        Err(fault) => {
-            let _ = writeln!(err, "{fault}");
-            fault.status()
-        }
+        Err(error) => end(err, error),
     }
 }

@@ -1,8 +1,9 @@
 //! How a server starts: its relay, its sockets, and what it reports.
 
 use crate::clock::{elapsed, starting_now};
+use crate::error::CommandError;
 use crate::filters::{PeerOptions, filter_of};
-use crate::options::{CommandError, Prepared, Relayed, Texts, program_fault, set_up, unread};
+use crate::options::{Prepared, Relayed, Texts, program_fault, set_up, unread};
 use crate::serve_command::{Server, Wire};
 use command_line::{Options, ServerOptions, defaults, relayed_ip, relayed_ip6};
 use loader::{Loaded, load};

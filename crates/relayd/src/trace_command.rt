@@ -3,7 +3,8 @@
 ghost use Rattle.std.specs.Prelude.{IfOk, IfSome};
 ghost use Rattle.tables.specs.Channels.{IsChannelNumber};
 
-use crate::options::{CommandError, status_of, unread};
+use crate::error::{CommandError, status_of};
+use crate::options::unread;
 use crate::read_whole;
 use crate::reports::{map_of, print_annotated, read_lines, report_file};
 use attributes::Family;

@@ -1,8 +1,9 @@
 //! The commands `assemble` and `order`: write a program to a file, and its source map to another.
 
-use crate::options::{CommandError, status_of, unread};
+use crate::error::{CommandError, REFUSED, status_of};
+use crate::options::unread;
 use crate::reports::{map_of, read_lines};
-use crate::{REFUSED, note_object_file, read_text, read_whole};
+use crate::{note_object_file, read_text, read_whole};
 use asm::{AsmError, assemble_with_lines};
 use insn::{DecodeError, decode};
 use ordering::{FileError, FileInOrder, OrderError, Places, order_file, way_round};

@@ -53,14 +53,3 @@ pub enum CheckError {
     #[error("cannot write output")]
     Output,
 }
-
-impl CheckError {
-    /// Returns the exit status: 1 where the server doesn't serve, and 3 where the check itself fails.
-    pub fn status(self) -> u8 {
-        match self {
-            CheckError::NoAnswer(_) | CheckError::Refused(..) | CheckError::Unexpected(_) => 1,
-            CheckError::Long => 1,
-            CheckError::Socket | CheckError::Clock | CheckError::Output => 3,
-        }
-    }
-}
