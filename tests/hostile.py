@@ -39,8 +39,8 @@ NEVER = ["0.0.0.0", "0.1.2.3", "169.254.169.254", "224.0.0.1", "239.255.255.255"
 # `mov r0, 1` and `exit`: all is passed on to the rules
 PASS = bytes.fromhex("b700000001000000 9500000000000000")
 # the options of files that are read again, each with good bytes, how many it may have, and what is reported of one that isn't there
-ODD_FILES = [("client", PASS, 32_768, ""), ("peer", PASS, 32_768, ""), ("users", b"ann:a\n", 1 << 20, "not readable"),
-             ("secret", b"a secret of 16 b\n", 1 << 20, "not readable"), ("revoked", b"eve\n", 1 << 20, "not readable")]
+ODD_FILES = [("client", PASS, 32_768, ""), ("peer", PASS, 32_768, ""), ("users", b"ann:a\n", 1 << 18, "not readable"),
+             ("secret", b"a secret of 16 b\n", 1 << 18, "not readable"), ("revoked", b"eve\n", 1 << 18, "not readable")]
 # a burst, and the length of each of its datagrams: more than the system's usual buffers hold
 BURST, LENGTH = 400, 1_200
 # the sessions of two processes that serve one port, each with two channels

@@ -62,7 +62,7 @@ REFUSED_USERS = [
     (b"dan:e\nbob:\n", "line 2: a password that is empty"),
     (b"dan:e\n" + b"".join(b"%d:b\n" % number for number in range(63)), "line 64: more than 64 users"),
     (b"dan:e\nbob:\xff\n", "not UTF-8"),
-    (b"dan:e\n" + b"#" * (1 << 20), "more than 1048576 bytes"),
+    (b"dan:e\n" + b"#" * (1 << 18), "more than 262144 bytes"),
 ]
 # the most slots, and those that are used when all are allocated
 MOST_SLOTS, USED_SLOTS = 256, (0, 69, 254, 255)

@@ -14,7 +14,7 @@ use std::{fmt, str};
 use thiserror::Error;
 
 /// The most bytes of a file that is read while a server runs.
-const LONGEST: u64 = 1 << 20;
+const LONGEST: u64 = 1 << 18;
 
 /// Why what a file has isn't taken.
 #[derive(Clone, Copy, Debug, PartialEq, Eq, Error)]
