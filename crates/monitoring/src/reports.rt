@@ -33,25 +33,58 @@ pub struct Observed<'a> {
     pub moment: u64,
 }
 
-/// A report that has several pieces.
+/// What is reported, each in its turn.
 #[derive(Clone, Copy)]
 enum Report {
+    /// The receives and sends that failed.
+    Faults,
     /// The line of counters.
     Counters,
+    /// How shadows compare.
+    Shadows,
     Metrics,
 }
 
-/// A piece of a report that has begun, after the first one, in which it is looked at what the system dropped over IPv4.
+/// A piece of a report that has begun, after the first one, in which it is read what the system dropped over IPv4.
 #[derive(Clone, Copy)]
 enum Piece {
-    /// To look at what it dropped over IPv6.
-    Dropped(Report),
-    /// To print the line of counters.
+    /// To read what it dropped over IPv6, for the line of counters.
+    CountersDrops,
+    /// To print that line.
     Counters,
+    /// To read what it dropped over IPv6, for the metrics.
+    MetricsDrops,
     /// To make the text of the metrics.
     Text,
     /// To write that text to its file.
     File,
+}
+
+impl Report {
+    /// How many there are.
+    const COUNT: usize = 4;
+
+    /// Returns the one whose turn is next.
+    fn next(self) -> Report {
+        match self {
+            Report::Faults => Report::Counters,
+            Report::Counters => Report::Shadows,
+            Report::Shadows => Report::Metrics,
+            Report::Metrics => Report::Faults,
+        }
+    }
+}
+
+impl Piece {
+    /// Returns the one that follows, if there is one.
+    fn next(self) -> Option<Piece> {
+        match self {
+            Piece::CountersDrops => Some(Piece::Counters),
+            Piece::MetricsDrops => Some(Piece::Text),
+            Piece::Text => Some(Piece::File),
+            Piece::Counters | Piece::File => None,
+        }
+    }
 }
 
 /// What a server reports of itself. Its memory is taken before the server listens.
@@ -67,7 +100,9 @@ pub struct Reports<'a> {
     shadows: Timer,
     metrics: Option<MetricsFile<'a>>,
     log: Option<ServerLog>,
-    /// The next piece of the report that has begun, if one has.
+    /// The report that was begun last.
+    report: Report,
+    /// The next piece of it, if some are left.
     piece: Option<Piece>,
 }
 
@@ -101,6 +136,7 @@ impl<'a> Reports<'a> {
             shadows: Timer::new(now, Duration::from_secs(SHADOWS_PERIOD)),
             metrics,
             log,
+            report: Report::Metrics,
             piece: None,
         })
     }
@@ -182,14 +218,6 @@ impl<'a> Reports<'a> {
         }
     }
 
-    /// Returns whether lines of the log are still to be printed.
-    pub fn has_lines(&self) -> bool {
-        match &self.log {
-            Some(log) => log.has_lines(),
-            None => false,
-        }
-    }
-
     /// Does one piece of what is due of the log, if there is one: prints some of its lines; once a period the allocations that
     /// have ended are added, and then it is printed how many lines were left out. Returns whether there was a piece.
     pub fn tend_log<E: Write>(&mut self, err: &mut E, of: Observed<'_>, now: Duration) -> bool {
@@ -199,33 +227,55 @@ impl<'a> Reports<'a> {
         }
     }
 
-    /// Does the first piece of what is due: prints faults or how shadows compare, or looks at what the system dropped, after
-    /// which counters are printed, or metrics are written. Returns whether something is due.
-    fn begin_report<R: Files, E: Write>(
+    /// Returns whether a report is due at a time. The next one of its kind is then due one period later.
+    fn is_due(&mut self, report: Report, counters: &Counters, now: Duration) -> bool {
+        match report {
+            Report::Faults => self.has_faults(counters) && self.faults.is_due(now),
+            Report::Counters => match &mut self.stats {
+                Some(timer) => timer.is_due(now),
+                None => false,
+            },
+            Report::Shadows => self.shadows.is_due(now),
+            Report::Metrics => match &mut self.metrics {
+                Some(file) => file.is_due(now),
+                None => false,
+            },
+        }
+    }
+
+    /// Does the first piece of the report whose turn it is: prints faults or how shadows compare, or reads what the system dropped,
+    /// after which counters are printed, or metrics are written.
+    fn begin_report<R: Files, E: Write>(&mut self, rt: &R, err: &mut E, of: Observed<'_>) {
+        match self.report {
+            Report::Faults => self.print_faults(err, of.counters),
+            Report::Shadows => print_shadows(err, of.shadows),
+            Report::Counters => {
+                self.drops.look_at_ipv4(rt);
+                self.piece = Some(Piece::CountersDrops);
+            }
+            Report::Metrics => {
+                self.drops.look_at_ipv4(rt);
+                self.piece = Some(Piece::MetricsDrops);
+            }
+        }
+    }
+
+    /// Begins the next report that is due at a time. Returns whether there was one.
+    fn begin_next<R: Files, E: Write>(
         &mut self,
         rt: &R,
         err: &mut E,
         of: Observed<'_>,
         now: Duration,
     ) -> bool {
-        if self.has_faults(of.counters) && self.faults.is_due(now) {
-            self.print_faults(err, of.counters);
-        } else if let Some(stats) = &mut self.stats
-            && stats.is_due(now)
-        {
-            self.drops.look_at_ipv4(rt);
-            self.piece = Some(Piece::Dropped(Report::Counters));
-        } else if self.shadows.is_due(now) {
-            print_shadows(err, of.shadows);
-        } else if let Some(file) = &mut self.metrics
-            && file.is_due(now)
-        {
-            self.drops.look_at_ipv4(rt);
-            self.piece = Some(Piece::Dropped(Report::Metrics));
-        } else {
-            return false;
+        for _ in 0..Report::COUNT {
+            self.report = self.report.next();
+            if self.is_due(self.report, of.counters, now) {
+                self.begin_report(rt, err, of);
+                return true;
+            }
         }
-        true
+        false
     }
 
     /// Does a piece of the report that has begun, or begins one that is due: prints faults, counters and how shadows compare,
@@ -238,16 +288,11 @@ impl<'a> Reports<'a> {
         now: Duration,
     ) -> bool {
         let Some(piece) = self.piece else {
-            return self.begin_report(rt, err, of, now);
+            return self.begin_next(rt, err, of, now);
         };
-        self.piece = match piece {
-            Piece::Dropped(Report::Counters) => Some(Piece::Counters),
-            Piece::Dropped(Report::Metrics) => Some(Piece::Text),
-            Piece::Text => Some(Piece::File),
-            Piece::Counters | Piece::File => None,
-        };
+        self.piece = piece.next();
         match piece {
-            Piece::Dropped(_) => self.drops.look_at_ipv6(rt),
+            Piece::CountersDrops | Piece::MetricsDrops => self.drops.look_at_ipv6(rt),
             Piece::Counters => self.print_counters(err, of),
             Piece::Text => self.make_metrics(of),
             Piece::File => self.write_metrics(rt, err),

@@ -388,7 +388,7 @@ impl ServerLog {
     }
 
     /// Returns whether lines are still to be printed.
-    pub fn has_lines(&self) -> bool {
+    fn has_lines(&self) -> bool {
         !self.entries.is_empty()
     }
 

@@ -17,8 +17,8 @@ use rand_core::Rng;
 use relay::{Disposition, Relay, Source};
 use replacing::{Contents, RereadFile, Sides};
 use server::{
-    Arrival, ClockOffset, Counters, LinkFault, Moments, Place, Ports, Schedule, TURNS, Timer,
-    TurnOutcome, draw_nonce, serve_round, turn,
+    Arrival, ClockOffset, Counters, Duty, LinkFault, Moments, Place, Ports, Schedule, TURNS, Timer,
+    TurnOutcome, Work, do_next, draw_nonce, serve_round, turn,
 };
 use sockets::Sockets;
 use std::fs::File;
@@ -41,10 +41,10 @@ const VERIFYING: u64 = 150;
 /// The most slices of a verification between two turns.
 const SLICES: usize = 10_000;
 
-/// The most sockets that are closed between two turns.
-const CLOSED: usize = 8;
+/// The most sockets that are opened, or closed, between two turns.
+const SOCKETS: usize = 8;
 
-/// The most pieces of what is due that follow one another where no turns are between them. There are fewer.
+/// The most pieces of what is due that follow one another where no turns are between them.
 const PIECES: usize = 64;
 
 /// What the turns of a server go through, beside its relay.
@@ -76,10 +76,12 @@ pub(crate) struct Server<'a> {
     pub(crate) nonces: Timer,
     /// How far the system's clock is ahead, where names expire by it.
     pub(crate) clock: Option<ClockOffset>,
-    /// When the chores of a second begin.
+    /// When the chores of a second begin, once those of the last one are done.
     pub(crate) files: Timer,
     /// The next one of them, if some are left.
     pub(crate) chore: Option<Chore>,
+    /// The kind of work of which a piece was done last.
+    pub(crate) duty: Duty,
     pub(crate) reports: Reports<'a>,
     /// Whether several datagrams had come at the endpoint that was served last.
     pub(crate) is_busy: bool,
@@ -96,6 +98,17 @@ struct Waiting {
     reports: ArrayVec<usize, EVENTS>,
     /// Which endpoints are served in a round.
     schedule: Schedule,
+}
+
+/// The work of a server beside datagrams, of which some may be due at a time.
+#[derive(Drop)]
+struct DueWork<'a, 'b, R: Clock, E: Write> {
+    server: &'b mut Server<'a>,
+    rt: &'b R,
+    err: &'b mut E,
+    /// What reports the sockets of new clients; without one they get none.
+    poll: Option<&'b Poll>,
+    now: Duration,
 }
 
 /// The endpoints of a server, which are served by the system's clock.
@@ -125,9 +138,9 @@ fn ends_of(contents: Contents<'_>) -> (EndReason, RecordEnd) {
 }
 
 impl<'a> Server<'a> {
-    /// Replaces the nonce where that is due.
-    fn renew_due_nonce<R: Clock>(&mut self, rt: &R) {
-        if self.nonces.is_due(elapsed(rt)) {
+    /// Replaces the nonce where that is due at a time.
+    fn renew_due_nonce(&mut self, now: Duration) {
+        if self.nonces.is_due(now) {
             self.renew_nonce();
         }
     }
@@ -192,12 +205,16 @@ impl<'a> Server<'a> {
         self.sides.is_replacing() || self.shadows.is_replacing()
     }
 
-    /// Goes on verifying programs for some time, those of shadows last, and replaces those that run where all are verified.
-    fn verify<R: Clock, E: Write>(&mut self, rt: &R, err: &mut E, start: Duration) {
-        let end = start.saturating_add(Duration::from_micros(VERIFYING));
+    /// Continues to verify programs for some time, those of shadows last, and replaces those that run where all are verified. Returns
+    /// whether there were some to verify.
+    fn verify<R: Clock, E: Write>(&mut self, rt: &R, err: &mut E) -> bool {
+        if !self.is_replacing() {
+            return false;
+        }
+        let end = elapsed(rt).saturating_add(Duration::from_micros(VERIFYING));
         for _ in 0..SLICES {
             if !self.is_replacing() || elapsed(rt) >= end {
-                return;
+                break;
             }
             let watch = &mut self.wire.watch;
             if !self.sides.is_replacing() {
@@ -206,6 +223,7 @@ impl<'a> Server<'a> {
                 watch.recording.end(err, RecordEnd::Programs);
             }
         }
+        true
     }
 
     /// Logs the allocations that have ended for a reason, if there is a log.
@@ -220,7 +238,7 @@ impl<'a> Server<'a> {
     fn close_own_sockets<R: Clock>(&mut self, rt: &R) {
         let now = moment(rt, &self.moments);
         let tables = self.relay.tables();
-        if self.wire.sockets.close_others(tables, now, CLOSED) {
+        if self.wire.sockets.close_others(tables, now, SOCKETS) {
             self.chore = Some(Chore::Sockets);
         }
     }
@@ -276,11 +294,6 @@ impl<'a> Server<'a> {
         }
     }
 
-    /// Returns whether something is left to be done before the next datagram comes.
-    fn has_work(&self) -> bool {
-        self.is_tending || self.is_replacing() || self.reports.has_lines()
-    }
-
     /// Does the next chore, if some are left. Returns whether one was.
     fn do_chore<R: Files + Clock + AllocGlobal, E: Write>(&mut self, rt: &R, err: &mut E) -> bool {
         let Some(chore) = self.chore else {
@@ -300,32 +313,57 @@ impl<'a> Server<'a> {
         true
     }
 
-    /// Does one piece of the reports that are due, if some are. Returns whether one was.
-    fn report<R: Files + Clock, E: Write>(&mut self, rt: &R, err: &mut E, now: Duration) -> bool {
-        let of = observed(&self.wire, &self.relay, moment(rt, &self.moments));
+    /// Does one piece of the log, if something of it is due at a time. Returns whether it was.
+    fn print_log<E: Write>(&mut self, err: &mut E, now: Duration) -> bool {
+        let of = observed(&self.wire, &self.relay, self.moments.at(now));
+        self.reports.tend_log(err, of, now)
+    }
+
+    /// Does one piece of the reports that are due at a time, if some are. Returns whether one was.
+    fn report<R: Files, E: Write>(&mut self, rt: &R, err: &mut E, now: Duration) -> bool {
+        let of = observed(&self.wire, &self.relay, self.moments.at(now));
         self.reports.tend(rt, err, of, now)
     }
 
-    /// Does one piece of what is due, and notes whether there was one: of the log, of the chores of a second, or of the reports,
-    /// in this order. Where nothing is due it goes on verifying programs.
-    /// See docs/DECISIONS.md, "What is looked at once a second".
-    fn tend<R: Files + Clock + AllocGlobal, E: Write>(&mut self, rt: &R, err: &mut E) {
-        let now = elapsed(rt);
-        if self.files.is_due(now) {
-            self.chore = Some(Chore::FIRST);
-        }
-        let of = observed(&self.wire, &self.relay, moment(rt, &self.moments));
-        let is_logging = self.reports.tend_log(err, of, now);
-        self.is_tending = is_logging || self.do_chore(rt, err) || self.report(rt, err, now);
-        if !self.is_tending {
-            self.verify(rt, err, now);
+    /// Gives some new clients sockets of their own, which a poll reports. Returns whether there were some; without a poll there are
+    /// none.
+    fn connect_clients<R: Net>(&mut self, rt: &R, poll: Option<&Poll>) -> bool {
+        match poll {
+            Some(poll) => self.wire.sockets.connect_wanted(rt, poll, SOCKETS),
+            None => false,
         }
     }
 
-    /// Does all that is due, with no turns between its pieces.
-    fn tend_whole<R: Files + Clock + AllocGlobal, E: Write>(&mut self, rt: &R, err: &mut E) {
+    /// Does one piece of what is due at a time, of the next kind of which something is, and notes whether there was one. New clients
+    /// get sockets of their own where a poll is there to report them.
+    /// See docs/DECISIONS.md, "What is looked at once a second".
+    fn tend<'b, R: Files + Net + Clock + AllocGlobal, E: Write>(
+        &'b mut self,
+        rt: &'b R,
+        err: &'b mut E,
+        poll: Option<&'b Poll>,
+        now: Duration,
+    ) {
+        if self.chore.is_none() && self.files.is_due(now) {
+            self.chore = Some(Chore::FIRST);
+        }
+        let last = self.duty;
+        let mut work = DueWork {
+            server: &mut *self,
+            rt,
+            err,
+            poll,
+            now,
+        };
+        let done = do_next(&mut work, last);
+        self.is_tending = done.is_some();
+        self.duty = done.unwrap_or(last);
+    }
+
+    /// Does what is due, with no turns between its pieces.
+    fn tend_whole<R: Files + Net + Clock + AllocGlobal, E: Write>(&mut self, rt: &R, err: &mut E) {
         for _ in 0..PIECES {
-            self.tend(rt, err);
+            self.tend(rt, err, None, elapsed(rt));
             if !self.is_tending {
                 return;
             }
@@ -386,14 +424,14 @@ impl<'a> Server<'a> {
 
     /// Makes rounds that never wait, and prints the counters and writes the metrics if they are wanted.
     /// See docs/DECISIONS.md, "Rounds never wait".
-    fn make_rounds<R: Files + Clock + AllocGlobal, E: Write>(
+    fn make_rounds<R: Files + Net + Clock + AllocGlobal, E: Write>(
         &mut self,
         rt: &R,
         err: &mut E,
         rounds: u64,
     ) {
         for _ in 0..rounds {
-            self.renew_due_nonce(rt);
+            self.renew_due_nonce(elapsed(rt));
             self.round(rt);
             self.tend_whole(rt, err);
         }
@@ -442,7 +480,7 @@ impl<'a> Server<'a> {
         mut waiting: Waiting,
     ) -> Result<(), CommandError<'static>> {
         for _ in 0..u64::MAX {
-            let is_idle = !waiting.schedule.has_ready() && !self.has_work();
+            let is_idle = !waiting.schedule.has_ready() && !self.is_tending;
             let wait = if is_idle {
                 self.longest_wait()
             } else {
@@ -450,14 +488,14 @@ impl<'a> Server<'a> {
             };
             self.wire.watch.flush(err);
             waiting.wait(wait)?;
-            self.renew_due_nonce(rt);
+            let now = elapsed(rt);
+            self.renew_due_nonce(now);
             let mut endpoints = ServedEndpoints {
                 server: &mut *self,
                 rt,
             };
             serve_round(&mut endpoints, &waiting.reports, &mut waiting.schedule);
-            self.wire.sockets.connect_wanted(rt, &waiting.poll);
-            self.tend(rt, err);
+            self.tend(rt, err, Some(&waiting.poll), now);
         }
         Ok(())
     }
@@ -521,6 +559,18 @@ impl Waiting {
 impl<R: Clock> server::Endpoints for ServedEndpoints<'_, '_, R> {
     fn serve(&mut self, token: usize) -> bool {
         self.server.drain(self.rt, token)
+    }
+}
+
+impl<R: Files + Net + Clock + AllocGlobal, E: Write> Work for DueWork<'_, '_, R, E> {
+    fn do_piece(&mut self, duty: Duty) -> bool {
+        match duty {
+            Duty::Log => self.server.print_log(self.err, self.now),
+            Duty::Clients => self.server.connect_clients(self.rt, self.poll),
+            Duty::Chores => self.server.do_chore(self.rt, self.err),
+            Duty::Reports => self.server.report(self.rt, self.err, self.now),
+            Duty::Programs => self.server.verify(self.rt, self.err),
+        }
     }
 }
 

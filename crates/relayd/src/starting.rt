@@ -13,7 +13,7 @@ use rand::make_rng;
 use rand::rngs::StdRng;
 use rand_core::Rng;
 use replacing::{Contents, ProgramFile, RereadFile, Sides};
-use server::{ClockOffset, Counters, Timer};
+use server::{ClockOffset, Counters, Duty, Timer};
 use setup::ProgramError;
 use shadow::Shadows;
 use sockets::{Addresses, BindError, EndpointSockets, SocketOptions, Sockets};
@@ -348,6 +348,7 @@ fn server_of<'a, R: Clock + AllocGlobal>(
         clock: options.secret_file.is_some().then(ClockOffset::new),
         files: Timer::new(now, Duration::from_secs(FILES_PERIOD)),
         chore: None,
+        duty: Duty::Programs,
         reports: parts.reports,
         is_busy: false,
         is_tending: false,

@@ -8,6 +8,7 @@ pub mod Reported
 pub mod Rounds
 pub mod TokenPlaces
 pub mod Turns
+pub mod TurnsOfDuties
 pub mod Unfiltered
 pub mod Waits
 pub mod Walks

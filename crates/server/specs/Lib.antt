@@ -3,6 +3,7 @@ pub mod Ahead
 pub mod Calls
 pub mod Counters
 pub mod CounterValues
+pub mod Duties
 pub mod Entries
 pub mod Filling
 pub mod Hairpins

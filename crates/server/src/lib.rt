@@ -4,6 +4,7 @@
 
 mod ahead;
 mod counters;
+mod duties;
 mod hairpin;
 mod laws;
 mod link;
@@ -20,8 +21,11 @@ mod turning;
 
 pub use ahead::{Ahead, ROOM, Receipt, TURNS};
 pub use counters::{Counter, Counters, KINDS, Kind, REASONS, TurnOutcome, VERDICTS};
+pub use duties::{Duty, Work, do_next};
 pub use hairpin::Hairpin;
-pub use laws::{law_each_datagram_is_counted_once, law_rounds_are_fair};
+pub use laws::{
+    law_each_datagram_is_counted_once, law_each_duty_has_its_turn, law_rounds_are_fair,
+};
 pub use link::{Link, LinkFault, Place};
 pub use moments::{ClockOffset, Moments};
 pub use nonce::draw_nonce;

@@ -126,21 +126,27 @@ impl ClientSockets {
         false
     }
 
-    /// Gives each client that is to have a socket one, which a poll reports under the token of its slot, that of slot 0 being
-    /// `first`. Where the system has none more the client is served at that of all clients.
+    /// Gives at most so many of the clients that are to have a socket one, which a poll reports under the token of its slot, that
+    /// of slot 0 being `first`. Where the system has none more the client is served at that of all clients. Returns whether there
+    /// was a client that was to have one.
     pub(crate) fn connect_wanted<R: Net>(
         &mut self,
         rt: &R,
         shared: &UdpSocket,
         registry: &Registry,
         first: usize,
-    ) {
+        most: usize,
+    ) -> bool {
         if !self.has_wanted {
-            return;
+            return false;
         }
-        self.has_wanted = false;
+        let mut count = 0;
         for (token, of_slot) in (first..).zip(self.by_slot.iter_mut()) {
             if let ClientSocket::Wanted(client) = of_slot {
+                if count >= most {
+                    return true;
+                }
+                count += 1;
                 let client = *client;
                 *of_slot = match connected(rt, shared, self.options, client) {
                     Ok(socket) => registered(registry, token, client, socket),
@@ -148,6 +154,8 @@ impl ClientSockets {
                 };
             }
         }
+        self.has_wanted = false;
+        true
     }
 
     /// Receives a datagram at the socket of the client of a slot, if one has come.

@@ -342,14 +342,15 @@ impl Sockets {
         self.endpoints.clients.want(slot, client);
     }
 
-    /// Gives the clients that are to have a socket one, which a poll reports.
-    pub fn connect_wanted<R: Net>(&mut self, rt: &R, poll: &Poll) {
+    /// Gives at most so many of the clients that are to have a socket one, which a poll reports. Returns whether there was a client
+    /// that was to have one.
+    pub fn connect_wanted<R: Net>(&mut self, rt: &R, poll: &Poll, most: usize) -> bool {
         let EndpointSockets {
             client,
             clients,
             ..
         } = &mut self.endpoints;
-        clients.connect_wanted(rt, client, poll.registry(), FIRST_CLIENT);
+        clients.connect_wanted(rt, client, poll.registry(), FIRST_CLIENT, most)
     }
 
     /// Closes at most so many sockets of clients that have no allocation at their slot any more, and at which nothing waits.
