@@ -478,6 +478,15 @@ def sockets_of(server):
     return sum(os.readlink(name).startswith("socket:") for name in folder.iterdir())
 
 
+def sockets_become(server, count):
+    """Waits a second at most until the server has so many sockets open, and returns how many it has: it opens and closes them when
+    their turn comes."""
+    end = time.monotonic() + 1
+    while sockets_of(server) != count and time.monotonic() < end:
+        time.sleep(0.01)
+    return sockets_of(server)
+
+
 def own_sockets():
     """Yields what is lost of a client with an allocation, or isn't put right, where strangers fill the buffer of the socket that they
     send to, and where the client's machine refuses what is sent to it."""
@@ -485,7 +494,7 @@ def own_sockets():
         before = sockets_of(server)
         client.allocate()
         yield from wanted("a channel", code_of(client.bind(address_of(peer))), 0)
-        yield from wanted("sockets with an allocation", sockets_of(server), before + 1)
+        yield from wanted("sockets with an allocation", sockets_become(server, before + 1), before + 1)
         with server.stopped():
             for _ in range(STRANGE):
                 stranger.sendto(bytes(100), client.server)
@@ -509,7 +518,7 @@ def own_sockets():
         # a server looks when something comes, and closes no socket at which a datagram waits
         with Client(server) as other:
             yield from wanted("another client's request", code_of(other.ask(BINDING, [])), 0)
-        yield from wanted("sockets afterwards", sockets_of(server), before)
+        yield from wanted("sockets afterwards", sockets_become(server, before), before)
         yield from wanted("a request afterwards", code_of(client.ask(BINDING, [])), 0)
         yield from wanted("faults", server.printed(), "")
 

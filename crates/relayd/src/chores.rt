@@ -8,14 +8,10 @@ pub(crate) enum Chore {
     Clock,
     /// To close sockets of clients whose allocations have ended, some at a time.
     Sockets,
-    /// To look at the file of the program for clients' datagrams.
-    ClientProgram,
-    /// To look at that for peers' datagrams.
-    PeerProgram,
-    /// To look at the file of the shadow for clients' datagrams.
-    ClientShadow,
-    /// To look at that for peers' datagrams.
-    PeerShadow,
+    /// To look at the files of both programs. Those that have changed together are replaced together.
+    ProgramFiles,
+    /// To look at those of both shadows.
+    ShadowFiles,
     /// To log the allocations that have ended by their lifetimes.
     Ends,
     /// To read a file of users, of secrets or of revoked users again, by its place among those that are given.
@@ -30,11 +26,9 @@ impl Chore {
     pub(crate) fn next(self, reread: usize) -> Option<Chore> {
         let next = match self {
             Chore::Clock => Chore::Sockets,
-            Chore::Sockets => Chore::ClientProgram,
-            Chore::ClientProgram => Chore::PeerProgram,
-            Chore::PeerProgram => Chore::ClientShadow,
-            Chore::ClientShadow => Chore::PeerShadow,
-            Chore::PeerShadow => Chore::Ends,
+            Chore::Sockets => Chore::ProgramFiles,
+            Chore::ProgramFiles => Chore::ShadowFiles,
+            Chore::ShadowFiles => Chore::Ends,
             Chore::Ends => Chore::Reread(0),
             Chore::Reread(index) => Chore::Reread(index.saturating_add(1)),
         };

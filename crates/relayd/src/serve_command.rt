@@ -137,6 +137,12 @@ fn ends_of(contents: Contents<'_>) -> (EndReason, RecordEnd) {
     }
 }
 
+/// Looks at the files of the programs of both sides.
+fn look_at_both<R: Files + AllocGlobal, E: Write>(rt: &R, err: &mut E, sides: &mut Sides<'_>) {
+    sides.look_at_client(rt, err);
+    sides.look_at_peer(rt, err);
+}
+
 impl<'a> Server<'a> {
     /// Replaces the nonce where that is due at a time.
     fn renew_due_nonce(&mut self, now: Duration) {
@@ -303,10 +309,8 @@ impl<'a> Server<'a> {
         match chore {
             Chore::Clock => self.look_at_clock(rt, err),
             Chore::Sockets => self.close_own_sockets(rt),
-            Chore::ClientProgram => self.sides.look_at_client(rt, err),
-            Chore::PeerProgram => self.sides.look_at_peer(rt, err),
-            Chore::ClientShadow => self.shadows.look_at_client(rt, err),
-            Chore::PeerShadow => self.shadows.look_at_peer(rt, err),
+            Chore::ProgramFiles => look_at_both(rt, err, &mut self.sides),
+            Chore::ShadowFiles => look_at_both(rt, err, &mut self.shadows),
             Chore::Ends => self.log_ends(rt, EndReason::Expired),
             Chore::Reread(index) => self.reread_file(rt, err, index),
         }
