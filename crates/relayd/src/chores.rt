@@ -6,8 +6,8 @@
 pub(crate) enum Chore {
     /// To look at the system's clock.
     Clock,
-    /// To close sockets of clients whose allocations have ended, some at a time.
-    Sockets,
+    /// To close sockets of clients whose allocations have ended, some at a time, from a slot on. Each slot comes once a second.
+    Sockets(usize),
     /// To look at the files of both programs. Those that have changed together are replaced together.
     ProgramFiles,
     /// To look at those of both shadows.
@@ -25,8 +25,8 @@ impl Chore {
     /// Returns the one that follows, if there is one, where so many files are read again.
     pub(crate) fn next(self, reread: usize) -> Option<Chore> {
         let next = match self {
-            Chore::Clock => Chore::Sockets,
-            Chore::Sockets => Chore::ProgramFiles,
+            Chore::Clock => Chore::Sockets(0),
+            Chore::Sockets(_) => Chore::ProgramFiles,
             Chore::ProgramFiles => Chore::ShadowFiles,
             Chore::ShadowFiles => Chore::Ends,
             Chore::Ends => Chore::Reread(0),

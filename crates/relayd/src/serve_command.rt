@@ -240,12 +240,13 @@ impl<'a> Server<'a> {
         }
     }
 
-    /// Closes some sockets of clients whose allocations have ended. Where there may be more, that is the next chore again.
-    fn close_own_sockets<R: Clock>(&mut self, rt: &R) {
+    /// Closes some sockets of clients whose allocations have ended, from a slot on. Where there may be more at later slots, that is
+    /// the next chore.
+    fn close_own_sockets<R: Clock>(&mut self, rt: &R, first: usize) {
         let now = moment(rt, &self.moments);
         let tables = self.relay.tables();
-        if self.wire.sockets.close_others(tables, now, SOCKETS) {
-            self.chore = Some(Chore::Sockets);
+        if let Some(slot) = self.wire.sockets.close_others(tables, now, first, SOCKETS) {
+            self.chore = Some(Chore::Sockets(slot));
         }
     }
 
@@ -308,7 +309,7 @@ impl<'a> Server<'a> {
         self.chore = chore.next(self.reread.len());
         match chore {
             Chore::Clock => self.look_at_clock(rt, err),
-            Chore::Sockets => self.close_own_sockets(rt),
+            Chore::Sockets(first) => self.close_own_sockets(rt, first),
             Chore::ProgramFiles => look_at_both(rt, err, &mut self.sides),
             Chore::ShadowFiles => look_at_both(rt, err, &mut self.shadows),
             Chore::Ends => self.log_ends(rt, EndReason::Expired),

@@ -353,13 +353,19 @@ impl Sockets {
         clients.connect_wanted(rt, client, poll.registry(), FIRST_CLIENT, most)
     }
 
-    /// Closes at most so many sockets of clients that have no allocation at their slot any more, and at which nothing waits.
-    /// Returns whether as many are closed, so that there may be more.
-    pub fn close_others(&mut self, tables: &Tables, now: u64, most: usize) -> bool {
+    /// Closes at most so many sockets, of the slots from one on, of clients that have no allocation at their slot any more, and at
+    /// which nothing waits. Returns the slot at which to continue, if as many are closed.
+    pub fn close_others(
+        &mut self,
+        tables: &Tables,
+        now: u64,
+        first: usize,
+        most: usize,
+    ) -> Option<usize> {
         let mut closed = 0;
-        for slot in 0..self.endpoints.slots.len() {
+        for slot in first..self.endpoints.slots.len() {
             if closed >= most {
-                return true;
+                return Some(slot);
             }
             let Some(client) = self.endpoints.clients.client_of(slot) else {
                 continue;
@@ -371,7 +377,7 @@ impl Sockets {
                 closed += 1;
             }
         }
-        closed >= most
+        None
     }
 
     /// Receives ahead at an endpoint.
