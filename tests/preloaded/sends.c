@@ -37,20 +37,39 @@ static void log_address(const struct sockaddr *to) {
   fprintf(sent, "]:%d ", ntohs(v6->sin6_port));
 }
 
-ssize_t sendto(int fd, const void *bytes, size_t size, int flags, const struct sockaddr *to, socklen_t length) {
-  static ssize_t (*real)(int, const void *, size_t, int, const struct sockaddr *, socklen_t);
+static void log_send(int fd, const struct sockaddr *to, const void *bytes, size_t size) {
   struct sockaddr_in6 own;
   socklen_t own_length = sizeof own;
+  if (getsockname(fd, (struct sockaddr *)&own, &own_length) != 0)
+    return;
+  fprintf(sent, "%d ", ntohs(own.sin6_port));
+  log_address(to);
+  if (size == 0)
+    fputc('-', sent);
+  log_digits(bytes, size);
+  fputc('\n', sent);
+  fflush(sent);
+}
+
+ssize_t sendto(int fd, const void *bytes, size_t size, int flags, const struct sockaddr *to, socklen_t length) {
+  static ssize_t (*real)(int, const void *, size_t, int, const struct sockaddr *, socklen_t);
   if (!real)
     real = (ssize_t(*)(int, const void *, size_t, int, const struct sockaddr *, socklen_t))dlsym(RTLD_NEXT, "sendto");
-  if (getsockname(fd, (struct sockaddr *)&own, &own_length) == 0) {
-    fprintf(sent, "%d ", ntohs(own.sin6_port));
-    log_address(to);
-    if (size == 0)
-      fputc('-', sent);
-    log_digits(bytes, size);
-    fputc('\n', sent);
-    fflush(sent);
-  }
+  log_send(fd, to, bytes, size);
   return real(fd, bytes, size, flags, to, length);
+}
+
+// at a connected socket
+ssize_t send(int fd, const void *bytes, size_t size, int flags) {
+  static ssize_t (*real)(int, const void *, size_t, int);
+  struct sockaddr_in6 to;
+  socklen_t length = sizeof to;
+  ssize_t n;
+  if (!real)
+    real = (ssize_t(*)(int, const void *, size_t, int))dlsym(RTLD_NEXT, "send");
+  n = real(fd, bytes, size, flags);
+  // what isn't sent there is sent at another socket
+  if (n >= 0 && getpeername(fd, (struct sockaddr *)&to, &length) == 0)
+    log_send(fd, (const struct sockaddr *)&to, bytes, size);
+  return n;
 }

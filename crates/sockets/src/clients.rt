@@ -158,6 +158,18 @@ impl ClientSockets {
         true
     }
 
+    /// Sends a datagram to a client at its own socket by a slot, if it has one there. Returns whether it was sent. It isn't where
+    /// it would have to wait, or where an earlier one didn't come to the client, which the system reports once.
+    #[inline(always)]
+    pub(crate) fn send(&self, slot: usize, to: &Addr, bytes: &[u8]) -> bool {
+        match self.by_slot.get(slot) {
+            Some(ClientSocket::Own { client, socket }) => {
+                *client == *to && socket.send(bytes).is_ok_and(|n| n == bytes.len())
+            }
+            _ => false,
+        }
+    }
+
     /// Receives a datagram at the socket of the client of a slot, if one has come.
     pub(crate) fn receive(&self, slot: usize, into: &mut [u8]) -> Result<Receipt, LinkFault> {
         let Some(ClientSocket::Own { socket, .. }) = self.by_slot.get(slot) else {

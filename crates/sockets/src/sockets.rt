@@ -237,6 +237,25 @@ impl EndpointSockets {
         self.ports.client
     }
 
+    /// Returns the slot of the socket at which datagrams are received, or the one of its client; none of the socket of all clients.
+    #[inline(always)]
+    fn chosen_slot(&self) -> Option<usize> {
+        match self.chosen {
+            SocketId::Clients => None,
+            SocketId::ClientOf(slot) | SocketId::Slot(slot, _) => Some(slot),
+        }
+    }
+
+    /// Sends a datagram to a client at its own socket, which the system needn't ask for the way to it. Returns whether it was sent:
+    /// not where it isn't the client of the slot that has its turn, or has no such socket.
+    #[inline(always)]
+    fn send_at_own(&self, endpoint: Place, to: &Addr, bytes: &[u8]) -> bool {
+        match (endpoint, self.chosen_slot()) {
+            (Place::Client, Some(slot)) => self.clients.send(slot, to, bytes),
+            _ => false,
+        }
+    }
+
     /// Returns the socket of a family at an endpoint. That of clients is of IPv4.
     fn at(&self, endpoint: Place, family: Family) -> Result<&UdpSocket, LinkFault> {
         let socket = match (endpoint, family) {
@@ -402,9 +421,13 @@ impl Link for EndpointSockets {
         }
     }
 
-    /// Sends a datagram from an endpoint. One that would have to wait, or isn't sent whole, is a fault.
-    /// See docs/DECISIONS.md, "Data between two clients of one server".
+    /// Sends a datagram from an endpoint: to a client at its own socket, and where that sends nothing, at the endpoint's. One that
+    /// would have to wait there, or isn't sent whole, is a fault.
+    /// See docs/DECISIONS.md, "Data between two clients of one server" and "A socket for each client".
     fn send(&mut self, endpoint: Place, to: Addr, bytes: &[u8]) -> Result<(), LinkFault> {
+        if self.send_at_own(endpoint, &to, bytes) {
+            return Ok(());
+        }
         let to = self.outward(endpoint, to);
         let family = match to {
             Addr::V4 { .. } => Family::Ipv4,
