@@ -7,7 +7,7 @@ use crate::names::{
 use crate::watching::side_name;
 use machine::Side;
 use server::{Counter, Counters, REASONS, Timer, VERDICTS};
-use shadow::{Comparison, DIFFERENCES, Deed, Shadows};
+use shadow::{ChoiceComparison, DIFFERENCES, Deed, Shadows};
 use std::alloc::{AllocError, Global};
 use std::fs;
 use std::io::{self, Write};
@@ -73,17 +73,17 @@ pub struct MetricsFile<'a> {
 }
 
 /// Returns the label of a difference between a program and its shadow.
-fn difference_name(difference: Comparison) -> &'static str {
+fn difference_name(difference: ChoiceComparison) -> &'static str {
     match difference {
-        Comparison::Differs(Deed::Discards, Deed::PassesOn) => "discarded_passed_on",
-        Comparison::Differs(Deed::Discards, _) => "discarded_sent",
-        Comparison::Differs(Deed::PassesOn, Deed::Discards) => "passed_on_discarded",
-        Comparison::Differs(Deed::PassesOn, _) => "passed_on_sent",
-        Comparison::Differs(Deed::Sends, Deed::Discards) => "sent_discarded",
-        Comparison::Differs(Deed::Sends, _) => "sent_passed_on",
-        Comparison::Elsewhere => "elsewhere",
-        Comparison::OtherBytes => "other_bytes",
-        Comparison::Same => "none",
+        ChoiceComparison::Differs(Deed::Discards, Deed::PassesOn) => "discarded_passed_on",
+        ChoiceComparison::Differs(Deed::Discards, _) => "discarded_sent",
+        ChoiceComparison::Differs(Deed::PassesOn, Deed::Discards) => "passed_on_discarded",
+        ChoiceComparison::Differs(Deed::PassesOn, _) => "passed_on_sent",
+        ChoiceComparison::Differs(Deed::Sends, Deed::Discards) => "sent_discarded",
+        ChoiceComparison::Differs(Deed::Sends, _) => "sent_passed_on",
+        ChoiceComparison::Elsewhere => "elsewhere",
+        ChoiceComparison::OtherBytes => "other_bytes",
+        ChoiceComparison::Same => "none",
     }
 }
 

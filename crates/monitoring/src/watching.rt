@@ -5,7 +5,7 @@ use events::{Meta, Source};
 use machine::Side;
 use relay::{Relay, Step};
 use server::Recorder;
-use shadow::{Comparison, Shadows};
+use shadow::{ChoiceComparison, Shadows};
 use std::alloc::{AllocError, Global};
 use std::io::Write;
 
@@ -17,7 +17,7 @@ const NAMED: usize = 100;
 struct NamedDifference {
     side: Side,
     line: u64,
-    comparison: Comparison,
+    comparison: ChoiceComparison,
 }
 
 /// What watches the datagrams of a server.
@@ -54,8 +54,8 @@ impl<'a> Watch<'a> {
     }
 
     /// Names a datagram with which a shadow does something else, where it is recorded.
-    fn name(&mut self, side: Side, comparison: Comparison) {
-        if self.left == 0 || comparison == Comparison::Same {
+    fn name(&mut self, side: Side, comparison: ChoiceComparison) {
+        if self.left == 0 || comparison == ChoiceComparison::Same {
             return;
         }
         if let Some(line) = self.recording.line() {

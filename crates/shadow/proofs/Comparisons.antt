@@ -11,8 +11,8 @@ use Rattle.insn.specs.declared.instruction.Insn.{Insn}
 use Rattle.relay.specs.Choices.{Chosen, Passing, Relaying, chosen_of, with_program, SameChoiceIsSameStep}
 use Rattle.relay.specs.Relays.{RelayContents, datagram_at}
 use Rattle.shadow.specs.Comparisons.{compared, deed_of, goes_same_way, is_same_answer, is_same_choice, is_same_deed, is_same_endpoint, is_same_sending, is_same_way, WouldStepSame}
-use Rattle.shadow.specs.declared.comparing.Comparison.{Comparison}
-use Rattle.shadow.specs.declared.comparing.Comparison.TheVariants.{Same, OtherBytes, Elsewhere, Differs}
+use Rattle.shadow.specs.declared.comparing.ChoiceComparison.{ChoiceComparison}
+use Rattle.shadow.specs.declared.comparing.ChoiceComparison.TheVariants.{Same, OtherBytes, Elsewhere, Differs}
 use Rattle.shadow.specs.declared.comparing.Deed.{Deed}
 
 same_bytes : (a b : List ℕ) → bytes_eq a b ≡ true → a ≡ b
@@ -59,7 +59,7 @@ compares a b false true true e = absurd cc
 compares a b false true false e = absurd cc
 compares a b false false way e = absurd cc
 
-pub would_step_same : (r : RelayContents) (given : Meta) (n : ℕ) (program : List Insn) (comparison : Comparison)
+pub would_step_same : (r : RelayContents) (given : Meta) (n : ℕ) (program : List Insn) (comparison : ChoiceComparison)
     → comparison ≡ compared (chosen_of r given (datagram_at r n)) (chosen_of (with_program r given.from program) given (datagram_at r n))
     → SameChoiceIsSameStep r given n program → WouldStepSame r given n program comparison
 would_step_same r given n program comparison is law same =

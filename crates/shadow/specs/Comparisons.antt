@@ -8,8 +8,8 @@ use Rattle.insn.specs.declared.instruction.Insn.{Insn}
 use Rattle.relay.specs.Choices.{Chosen, Passing, Relaying, with_program}
 use Rattle.relay.specs.Relays.{RelayContents}
 use Rattle.relay.specs.Steps.{outcome_of}
-use Rattle.shadow.specs.declared.comparing.Comparison.{Comparison}
-use Rattle.shadow.specs.declared.comparing.Comparison.TheVariants.{Same, OtherBytes, Elsewhere, Differs}
+use Rattle.shadow.specs.declared.comparing.ChoiceComparison.{ChoiceComparison}
+use Rattle.shadow.specs.declared.comparing.ChoiceComparison.TheVariants.{Same, OtherBytes, Elsewhere, Differs}
 use Rattle.shadow.specs.declared.comparing.Deed.{Deed}
 use Rattle.shadow.specs.declared.comparing.Deed.TheVariants.{Discards, PassesOn, Sends}
 
@@ -66,12 +66,12 @@ goes_same_way (Relaying (Some a)) (Relaying (Some b)) = is_same_way a b
 goes_same_way a b = true
 
 -- of a program and its shadow
-abbrev pub compared : Chosen → Chosen → Comparison
+abbrev pub compared : Chosen → Chosen → ChoiceComparison
 compared a b =
     if is_same_choice a b then Same
     else if is_same_deed (deed_of a) (deed_of b) then (if goes_same_way a b then OtherBytes else Elsewhere)
     else Differs (deed_of a) (deed_of b)
 
 -- where a shadow does the same, the relay would have done the same with the shadow in place of its program
-abbrev pub WouldStepSame : RelayContents → Meta → ℕ → List Insn → Comparison → Type 0
+abbrev pub WouldStepSame : RelayContents → Meta → ℕ → List Insn → ChoiceComparison → Type 0
 WouldStepSame r given n program comparison = comparison ≡ Same → outcome_of (with_program r given.from program) given n ≡ outcome_of r given n

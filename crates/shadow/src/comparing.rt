@@ -22,7 +22,7 @@ pub enum Deed {
 
 /// How what a shadow does with a datagram compares with what the program does.
 #[derive(Clone, Copy, Debug, PartialEq, Eq)]
-pub enum Comparison {
+pub enum ChoiceComparison {
     /// The rules get the same bytes, the same bytes are sent to the same address, or nothing is sent.
     Same,
     /// Both pass the datagram on, or both send to the same address, but other bytes.
@@ -128,18 +128,18 @@ fn is_same_deed(a: Deed, b: Deed) -> bool
 }
 
 /// Compares what a shadow does with a datagram with what the program does.
-pub fn compared(program: Choice<'_>, shadow: Choice<'_>) -> Comparison
+pub fn compared(program: Choice<'_>, shadow: Choice<'_>) -> ChoiceComparison
     ensures { result ≡ compared (chosen_in program.entry) (chosen_in shadow.entry) }
 {
     if is_same_choice(&program, &shadow) {
-        return Comparison::Same;
+        return ChoiceComparison::Same;
     }
     let (first, second) = (deed_of(&program), deed_of(&shadow));
     if !is_same_deed(first, second) {
-        Comparison::Differs(first, second)
+        ChoiceComparison::Differs(first, second)
     } else if goes_same_way(&program, &shadow) {
-        Comparison::OtherBytes
+        ChoiceComparison::OtherBytes
     } else {
-        Comparison::Elsewhere
+        ChoiceComparison::Elsewhere
     }
 }

@@ -4,22 +4,22 @@ ghost use Rattle.std.specs.Prelude.{◌≡◌, ◌<◌};
 ghost use Rattle.server.specs.Counters.{HasRaised};
 ghost use Rattle.shadow.specs.CountValues.{comparison_index, comparison_count, deed_index};
 
-use crate::comparing::{Comparison, Deed};
+use crate::comparing::{ChoiceComparison, Deed};
 use std::fmt;
 
 /// The number of comparisons.
 const COUNT: usize = 12;
 
 /// All comparisons of something else that a shadow does, in the order in which they are printed.
-pub const DIFFERENCES: [Comparison; 8] = [
-    Comparison::Differs(Deed::Discards, Deed::PassesOn),
-    Comparison::Differs(Deed::Discards, Deed::Sends),
-    Comparison::Differs(Deed::PassesOn, Deed::Discards),
-    Comparison::Differs(Deed::PassesOn, Deed::Sends),
-    Comparison::Differs(Deed::Sends, Deed::Discards),
-    Comparison::Differs(Deed::Sends, Deed::PassesOn),
-    Comparison::Elsewhere,
-    Comparison::OtherBytes,
+pub const DIFFERENCES: [ChoiceComparison; 8] = [
+    ChoiceComparison::Differs(Deed::Discards, Deed::PassesOn),
+    ChoiceComparison::Differs(Deed::Discards, Deed::Sends),
+    ChoiceComparison::Differs(Deed::PassesOn, Deed::Discards),
+    ChoiceComparison::Differs(Deed::PassesOn, Deed::Sends),
+    ChoiceComparison::Differs(Deed::Sends, Deed::Discards),
+    ChoiceComparison::Differs(Deed::Sends, Deed::PassesOn),
+    ChoiceComparison::Elsewhere,
+    ChoiceComparison::OtherBytes,
 ];
 
 /// How often each comparison came out. A count stays at [`u64::MAX`] once it is there. Displays as what stands after the name of
@@ -52,28 +52,28 @@ impl Deed {
     }
 }
 
-impl Comparison {
+impl ChoiceComparison {
     /// Returns the index of the comparison, below 12.
     fn index(self) -> usize
         ensures index { result ≡ comparison_index self }
         ensures below { result < COUNT }
     {
         match self {
-            Comparison::Same => 0,
-            Comparison::OtherBytes => 1,
-            Comparison::Elsewhere => 2,
-            Comparison::Differs(program, shadow) => 3 + 3 * program.index() + shadow.index(),
+            ChoiceComparison::Same => 0,
+            ChoiceComparison::OtherBytes => 1,
+            ChoiceComparison::Elsewhere => 2,
+            ChoiceComparison::Differs(program, shadow) => 3 + 3 * program.index() + shadow.index(),
         }
     }
 }
 
-impl fmt::Display for Comparison {
+impl fmt::Display for ChoiceComparison {
     fn fmt<W: fmt::Write>(&self, f: &mut fmt::Formatter<W>) -> fmt::Result {
         match self {
-            Comparison::Same => f.write_str("the same"),
-            Comparison::OtherBytes => f.write_str("with other bytes"),
-            Comparison::Elsewhere => f.write_str("sent elsewhere"),
-            Comparison::Differs(program, shadow) => {
+            ChoiceComparison::Same => f.write_str("the same"),
+            ChoiceComparison::OtherBytes => f.write_str("with other bytes"),
+            ChoiceComparison::Elsewhere => f.write_str("sent elsewhere"),
+            ChoiceComparison::Differs(program, shadow) => {
                 let (program, shadow) = (program.done(), shadow.done());
                 write!(f, "{program} by the program and {shadow} by the shadow")
             }
@@ -82,17 +82,17 @@ impl fmt::Display for Comparison {
 }
 
 impl ShadowCounts {
-    ghost use Rattle.shadow.specs.declared.comparing.Comparison.{Comparison};
+    ghost use Rattle.shadow.specs.declared.comparing.ChoiceComparison.{ChoiceComparison};
 
     /// Returns counts that are all 0.
     pub const fn new() -> ShadowCounts
-        ensures { (c : Comparison) → comparison_count result c ≡ 0 }
+        ensures { (c : ChoiceComparison) → comparison_count result c ≡ 0 }
     {
         ShadowCounts { values: [0; COUNT] }
     }
 
     /// Returns how often a comparison came out.
-    pub fn get(&self, comparison: Comparison) -> u64
+    pub fn get(&self, comparison: ChoiceComparison) -> u64
         ensures { result ≡ comparison_count self.now comparison }
     {
         self.values[comparison.index()]
@@ -100,7 +100,7 @@ impl ShadowCounts {
 
     /// Counts a comparison.
     #[inline(always)]
-    pub fn count(&mut self, comparison: Comparison)
+    pub fn count(&mut self, comparison: ChoiceComparison)
         ensures { HasRaised comparison (comparison_count self.old) (comparison_count self.new) }
     {
         let index = comparison.index();
@@ -109,7 +109,8 @@ impl ShadowCounts {
 
     /// Returns how many datagrams were compared.
     pub fn compared(&self) -> u64 {
-        self.differing().saturating_add(self.get(Comparison::Same))
+        self.differing()
+            .saturating_add(self.get(ChoiceComparison::Same))
     }
 
     /// Returns with how many datagrams the shadow did something else.
@@ -126,7 +127,7 @@ impl ShadowCounts {
 fn write_count<W: fmt::Write>(
     f: &mut fmt::Formatter<W>,
     counts: &ShadowCounts,
-    comparison: Comparison,
+    comparison: ChoiceComparison,
     before: &'static str,
 ) -> Result<&'static str, fmt::Error> {
     match counts.get(comparison) {

@@ -6,7 +6,7 @@ mod counts;
 mod shadow;
 mod shadows;
 
-pub use comparing::{Comparison, Deed, compared};
+pub use comparing::{ChoiceComparison, Deed, compared};
 pub use counts::{DIFFERENCES, ShadowCounts};
 pub use shadow::Shadow;
 pub use shadows::Shadows;

@@ -9,7 +9,7 @@ ghost use Rattle.relay.specs.Lent.{chosen_by_route, chosen_in};
 ghost use Rattle.relay.specs.Relays.{RelayContents, datagram_at};
 ghost use Rattle.shadow.specs.Comparisons.{compared, WouldStepSame};
 
-use crate::comparing::{Comparison, compared};
+use crate::comparing::{ChoiceComparison, compared};
 use events::Meta;
 use loader::Loaded;
 use machine::Frame;
@@ -73,7 +73,7 @@ impl Shadow {
     /// Compares what the shadow would do with the datagram that it saw last with what the program has done with it. Where that is
     /// what the relay's program did in the state in which the shadow was asked, and both do the same, the relay would have made the
     /// same step with the shadow in place of its program.
-    pub fn compare_with(&self, done: Choice<'_>) -> Comparison
+    pub fn compare_with(&self, done: Choice<'_>) -> ChoiceComparison
         ensures compared { result ≡ compared (chosen_in done.entry) (chosen_by_route self.now.frame self.now.route) }
         ensures same { (r : RelayContents) (given : Meta) (n : ℕ)
             → chosen_in done.entry ≡ chosen_of r given (datagram_at r n)

@@ -3,7 +3,7 @@
 ghost use Rattle.std.specs.Prelude.{◌≤◌};
 ghost use Rattle.semantics.specs.declared.limits.TheConstants.{MAX_DATAGRAM};
 
-use crate::comparing::Comparison;
+use crate::comparing::ChoiceComparison;
 use crate::counts::ShadowCounts;
 use crate::shadow::Shadow;
 use events::{Meta, Source};
@@ -123,7 +123,11 @@ impl Shadows {
     /// Compares what the shadow of the side of the last datagram would do with it, if there is one, with what the program has done, and
     /// counts it.
     #[inline(always)]
-    pub fn compare_with(&mut self, from: &Source, done: Choice<'_>) -> Option<(Side, Comparison)> {
+    pub fn compare_with(
+        &mut self,
+        from: &Source,
+        done: Choice<'_>,
+    ) -> Option<(Side, ChoiceComparison)> {
         let SideShadow { shadow, counts } = self.of(from);
         match shadow {
             Some(shadow) => {
