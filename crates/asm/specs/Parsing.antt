@@ -13,11 +13,11 @@ use Rattle.asm.specs.declared.refusal.LineError.TheVariants.{Syntax, Range}
 use Rattle.asm.specs.Radices.{radix_of}
 use Rattle.asm.specs.declared.number.Number.{Number}
 use Rattle.asm.specs.declared.number.Integer.{Integer}
-use Rattle.asm.specs.declared.parser.Written.{Written}
-use Rattle.asm.specs.declared.parser.Written.TheVariants as written
+use Rattle.asm.specs.declared.parser.WrittenOperand.{WrittenOperand}
+use Rattle.asm.specs.declared.parser.WrittenOperand.TheVariants as written
 use Rattle.asm.specs.declared.parser.WrittenTarget.{WrittenTarget}
 use Rattle.asm.specs.declared.parser.WrittenTarget.TheVariants as written_target
-use Rattle.asm.specs.declared.parser.Address.{Address}
+use Rattle.asm.specs.declared.parser.WrittenAddress.{WrittenAddress}
 use Rattle.asm.specs.declared.parser.Parser.{Parser}
 use Rattle.asm.specs.declared.statement.Line.{Line}
 use Rattle.asm.specs.declared.statement.Line.TheVariants as line
@@ -30,11 +30,11 @@ numeral_value n = digits_value (radix_of n.radix) n.digits.now
 abbrev pub integer_value : Integer → ℤ
 integer_value integer = if integer.is_negative then neg_ℤ (pos (numeral_value integer.magnitude)) else pos (numeral_value integer.magnitude)
 
-abbrev pub parsed_operand : Written → Operand
+abbrev pub parsed_operand : WrittenOperand → Operand
 parsed_operand (written.Reg r) = operand.Reg r
 parsed_operand (written.Integer n) = operand.Imm (integer_value n)
 
-abbrev pub parsed_address : Address → MemoryOperand
+abbrev pub parsed_address : WrittenAddress → MemoryOperand
 parsed_address a = record { base = a.base; displacement = integer_value a.displacement }
 
 abbrev pub target_value : WrittenTarget → Target

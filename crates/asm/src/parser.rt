@@ -129,7 +129,7 @@ fn numbered<'a>(word: &'a [u8]) -> Option<Number<'a>>
 
 /// The second operand of an instruction, as it is written.
 #[derive(Clone, Copy)]
-pub(crate) enum Written<'a> {
+pub(crate) enum WrittenOperand<'a> {
     Reg(Reg),
     Integer(Integer<'a>),
 }
@@ -143,7 +143,7 @@ pub(crate) enum WrittenTarget<'a> {
 
 /// The address in a register, with a displacement, as it is written.
 #[derive(Clone, Copy)]
-pub(crate) struct Address<'a> {
+pub(crate) struct WrittenAddress<'a> {
     pub(crate) base: Reg,
     pub(crate) displacement: Integer<'a>,
 }
@@ -270,15 +270,15 @@ impl<'a> Parser<'a> {
     }
 
     /// Reads a register or a number.
-    pub(crate) fn operand(&mut self) -> Result<Written<'a>, LineError>
+    pub(crate) fn operand(&mut self) -> Result<WrittenOperand<'a>, LineError>
         ensures { Reads reading.operand_in parsed_operand self.old result self.new }
     {
         let mut after = *self;
         if let Ok(r) = after.register() {
             *self = after;
-            return Ok(Written::Reg(r));
+            return Ok(WrittenOperand::Reg(r));
         }
-        Ok(Written::Integer(self.integer()?))
+        Ok(WrittenOperand::Integer(self.integer()?))
     }
 
     /// Reads where a jump goes: a name, or a distance with its sign.
@@ -294,13 +294,13 @@ impl<'a> Parser<'a> {
     }
 
     /// Reads an address in brackets.
-    pub(crate) fn address(&mut self) -> Result<Address<'a>, LineError>
+    pub(crate) fn address(&mut self) -> Result<WrittenAddress<'a>, LineError>
         ensures { Reads reading.address parsed_address self.old result self.new }
     {
         self.sign(b"[")?;
         let base = self.register()?;
         let displacement = self.signed_number()?;
         self.sign(b"]")?;
-        Ok(Address { base, displacement })
+        Ok(WrittenAddress { base, displacement })
     }
 }

@@ -9,7 +9,7 @@ ghost use Rattle.asm.specs.Reading.{line_statement};
 ghost use Rattle.asm.specs.Parsing.{tokens_ahead, parsed_operand, parsed_address, target_value, link_value, Converts, Reads, ReadsAll, Understands, UnderstandsLine};
 
 use crate::mnemonic::Mnemonic;
-use crate::parser::{Address, Parser, Written, WrittenTarget, is_name};
+use crate::parser::{Parser, WrittenAddress, WrittenOperand, WrittenTarget, is_name};
 use crate::refusal::LineError;
 use insn::{AluOp, Condition, Extension, Insn, Operand, Reg, SignedSize, Size, Width};
 
@@ -24,7 +24,7 @@ pub(crate) enum Line<'a> {
     Insn(Insn, Option<&'a [u8]>),
 }
 
-impl<'a> Written<'a> {
+impl<'a> WrittenOperand<'a> {
     /// Returns the operand.
     ///
     /// # Errors
@@ -33,8 +33,8 @@ impl<'a> Written<'a> {
         ensures { Converts (λ o. o) OperandFits (parsed_operand self.entry) result }
     {
         match self {
-            Written::Reg(r) => Ok(Operand::Reg(r)),
-            Written::Integer(n) => Ok(Operand::Imm(n.imm()?)),
+            WrittenOperand::Reg(r) => Ok(Operand::Reg(r)),
+            WrittenOperand::Integer(n) => Ok(Operand::Imm(n.imm()?)),
         }
     }
 }
@@ -169,7 +169,7 @@ impl<'a> Parser<'a> {
     }
 
     /// Reads the register and the address of a load, up to the end of the line.
-    fn load_arguments(mut self) -> Result<(Reg, Address<'a>), LineError>
+    fn load_arguments(mut self) -> Result<(Reg, WrittenAddress<'a>), LineError>
         ensures { ReadsAll reading.load_arguments (λ a. (a.0, parsed_address a.1)) (tokens_ahead self.entry) result }
     {
         let dst = self.dst()?;

@@ -4,7 +4,7 @@ use Rattle.std.specs.Borrow.{Bor}
 use Rattle.std.specs.Str.Parse.{IsNumeral, digits_value, without_leading_plus}
 use Rattle.clap.specs.Words.{Text}
 use Rattle.hex.specs.Hex.{decode_of}
-use Rattle.command_line.specs.declared.values.ValueError.{ValueError}
+use Rattle.command_line.specs.declared.values.OptionError.{OptionError}
 
 -- decimal digits, of which a plus may be before the first, have this number, and it is below a bound
 abbrev pub IsDecimal : ℕ → Text → ℕ → Type 0
@@ -34,6 +34,6 @@ HasValue Spells None None = Unit {0}
 HasValue Spells _ _ = ⊥
 
 -- the text of this option spells no value, and is refused: the error names both
-abbrev pub IsRefusedValue : {A : Type 0} → Text → (Text → A → Type 0) → Option Text → ValueError → Type 0
+abbrev pub IsRefusedValue : {A : Type 0} → Text → (Text → A → Type 0) → Option Text → OptionError → Type 0
 IsRefusedValue {A} option Spells None e = ⊥
 IsRefusedValue {A} option Spells (Some text) e = ((value : A) → ¬ (Spells text value)) × ((e.option.now ≡ option) × (e.text.now ≡ text))

@@ -18,7 +18,7 @@ pub(crate) enum Takes {
 
 /// An argument.
 #[derive(Clone, Copy)]
-pub(crate) struct Argument {
+pub(crate) struct ArgumentWords {
     pub(crate) name: &'static str,
     pub(crate) takes: Takes,
     pub(crate) help: &'static str,
@@ -30,74 +30,74 @@ pub(crate) struct SubcommandWords {
     pub(crate) name: &'static str,
     /// What the help says of it.
     pub(crate) about: &'static str,
-    pub(crate) arguments: &'static [Argument],
+    pub(crate) arguments: &'static [ArgumentWords],
     /// Those that another one has as well.
-    pub(crate) shared: &'static [Argument],
+    pub(crate) shared: &'static [ArgumentWords],
 }
 
 /// The options that set up a relay.
-pub(crate) const RELAY: &[Argument] = &[
-    Argument {
+pub(crate) const RELAY: &[ArgumentWords] = &[
+    ArgumentWords {
         name: "realm",
         takes: Takes::Value("R"),
         help: "The realm; relay by default",
     },
-    Argument {
+    ArgumentWords {
         name: "user",
         takes: Takes::Values("NAME:PASSWORD"),
         help: "A user, whose name ends at the first colon; may be repeated. Other users of the machine can see it: see --users",
     },
-    Argument {
+    ArgumentWords {
         name: "users",
         takes: Takes::Value("FILE"),
         help: "A file of users: NAME:PASSWORD a line",
     },
-    Argument {
+    ArgumentWords {
         name: "secret",
         takes: Takes::Value("FILE"),
         help: "A file with the secret of time-limited credentials, a line of 16 to 128 bytes; a former one may follow",
     },
-    Argument {
+    ArgumentWords {
         name: "revoked",
         takes: Takes::Value("FILE"),
         help: "A file of users whose credentials aren't accepted, one a line; none by default",
     },
-    Argument {
+    ArgumentWords {
         name: "slots",
         takes: Takes::Value("N"),
         help: "How many allocations there may be at once; 16 by default",
     },
-    Argument {
+    ArgumentWords {
         name: "user-slots",
         takes: Takes::Value("N"),
         help: "How many allocations a user may have at once; as many as there may be by default",
     },
-    Argument {
+    ArgumentWords {
         name: "relay-ip",
         takes: Takes::Value("A"),
         help: "The relayed IPv4 address; 127.0.0.1 by default, and of a server that of --listen",
     },
-    Argument {
+    ArgumentWords {
         name: "relay-ip6",
         takes: Takes::Value("HEX"),
         help: "The relayed IPv6 address, in 32 hexadecimal digits; none by default",
     },
-    Argument {
+    ArgumentWords {
         name: "first-port",
         takes: Takes::Value("P"),
         help: "The relayed port of slot 0; 49152 by default",
     },
-    Argument {
+    ArgumentWords {
         name: "client",
         takes: Takes::Value("FILE"),
         help: "The program for clients' datagrams; CLIENT by default",
     },
-    Argument {
+    ArgumentWords {
         name: "peer",
         takes: Takes::Value("FILE"),
         help: "The program for peers' datagrams; PEER by default",
     },
-    Argument {
+    ArgumentWords {
         name: "same-as",
         takes: Takes::Values("A=B"),
         help: "An address that a program may send to where the client has permitted B in its place; may be repeated",
@@ -105,37 +105,37 @@ pub(crate) const RELAY: &[Argument] = &[
 ];
 
 /// No arguments.
-const NONE: &[Argument] = &[];
+const NONE: &[ArgumentWords] = &[];
 
 /// The program in a file.
-const FILE: Argument = Argument {
+const FILE: ArgumentWords = ArgumentWords {
     name: "file",
     takes: Takes::Word("FILE"),
     help: "The program: its encoded instructions (RFC 9669), 1 to 4,096 slots of 8 bytes",
 };
 
 /// The source map of a program that is read.
-const LINES: Argument = Argument {
+const LINES: ArgumentWords = ArgumentWords {
     name: "lines",
     takes: Takes::Value("MAP"),
     help: "The program's source map, whose lines are printed beside its slots",
 };
 
 /// The source map of a program that is written.
-const NEW_LINES: Argument = Argument {
+const NEW_LINES: ArgumentWords = ArgumentWords {
     name: "lines",
     takes: Takes::Value("MAP"),
     help: "Write the source map of the new program to a file, too: SLOT FILE:LINE and its text for each slot",
 };
 
 /// Those of `assemble`.
-const ASSEMBLE: &[Argument] = &[
-    Argument {
+const ASSEMBLE: &[ArgumentWords] = &[
+    ArgumentWords {
         name: "in",
         takes: Takes::Word("IN"),
         help: "The text of a program: one instruction or label a line",
     },
-    Argument {
+    ArgumentWords {
         name: "out",
         takes: Takes::Word("OUT"),
         help: "The file to write: the program's encoded instructions",
@@ -144,19 +144,19 @@ const ASSEMBLE: &[Argument] = &[
 ];
 
 /// Those of `order`.
-const ORDER: &[Argument] = &[
-    Argument {
+const ORDER: &[ArgumentWords] = &[
+    ArgumentWords {
         name: "in",
         takes: Takes::Word("IN"),
         help: "The program: its encoded instructions (RFC 9669), 1 to 4,096 slots of 8 bytes",
     },
-    Argument {
+    ArgumentWords {
         name: "out",
         takes: Takes::Word("OUT"),
         help: "The file to write: the program's encoded instructions",
     },
     NEW_LINES,
-    Argument {
+    ArgumentWords {
         name: "from",
         takes: Takes::Value("MAP"),
         help: "The source map of IN, whose lines are those of the new one; the slots of IN by default",
@@ -164,9 +164,9 @@ const ORDER: &[Argument] = &[
 ];
 
 /// Those of `disassemble`.
-const DISASSEMBLE: &[Argument] = &[
+const DISASSEMBLE: &[ArgumentWords] = &[
     FILE,
-    Argument {
+    ArgumentWords {
         name: "slots",
         takes: Takes::Nothing,
         help: "Write the slot of each instruction after it, as a comment",
@@ -175,12 +175,12 @@ const DISASSEMBLE: &[Argument] = &[
 ];
 
 /// Those of `verify`.
-const VERIFY: &[Argument] = &[FILE, LINES];
+const VERIFY: &[ArgumentWords] = &[FILE, LINES];
 
 /// Those of `explain`.
-const EXPLAIN: &[Argument] = &[
+const EXPLAIN: &[ArgumentWords] = &[
     FILE,
-    Argument {
+    ArgumentWords {
         name: "slot",
         takes: Takes::Value("N"),
         help: "Print each state from which the verifier made a step at this slot",
@@ -189,37 +189,37 @@ const EXPLAIN: &[Argument] = &[
 ];
 
 /// Those of `graph`.
-const GRAPH: &[Argument] = &[FILE, LINES];
+const GRAPH: &[ArgumentWords] = &[FILE, LINES];
 
 /// Those of `trace`.
-const TRACE: &[Argument] = &[
+const TRACE: &[ArgumentWords] = &[
     FILE,
-    Argument {
+    ArgumentWords {
         name: "data",
         takes: Takes::Value("HEX"),
         help: "The datagram in hexadecimal digits, at most 65,507 bytes; empty by default",
     },
-    Argument {
+    ArgumentWords {
         name: "side",
         takes: Takes::Value("SIDE"),
         help: "The side that it comes from: client, which is the default, or peer",
     },
-    Argument {
+    ArgumentWords {
         name: "source",
         takes: Takes::Value("A:P"),
         help: "The address and the port that it comes from; 127.0.0.1:9 by default",
     },
-    Argument {
+    ArgumentWords {
         name: "tx",
         takes: Takes::Value("HEX"),
         help: "The transaction id, in 24 hexadecimal digits; zeros by default",
     },
-    Argument {
+    ArgumentWords {
         name: "permit",
         takes: Takes::Values("A"),
         help: "An address that the client's allocation permits; may be repeated",
     },
-    Argument {
+    ArgumentWords {
         name: "channel",
         takes: Takes::Values("N=A:P"),
         help: "A channel of the client's allocation, as 0x4000=192.0.2.7:5000; may be repeated",
@@ -228,53 +228,53 @@ const TRACE: &[Argument] = &[
 ];
 
 /// Those of `replay` alone.
-const REPLAY: &[Argument] = &[
-    Argument {
+const REPLAY: &[ArgumentWords] = &[
+    ArgumentWords {
         name: "events",
         takes: Takes::Word("EVENTS"),
         help: "The events, one a line, as docs/EVENTS.md says; - reads standard input",
     },
-    Argument {
+    ArgumentWords {
         name: "nonce",
         takes: Takes::Value("TEXT"),
         help: "The nonce; n1 by default",
     },
-    Argument {
+    ArgumentWords {
         name: "why",
         takes: Takes::Nothing,
         help: "Print after each answer what was granted, or which test failed",
     },
-    Argument {
+    ArgumentWords {
         name: "confine",
         takes: Takes::Nothing,
         help: "Confine the programs to the peers that clients have permitted, as serve does",
     },
-    Argument {
+    ArgumentWords {
         name: "trace",
         takes: Takes::Value("N"),
         help: "Print each instruction of the run of the event on line N, in place of the answers",
     },
-    Argument {
+    ArgumentWords {
         name: "cover",
         takes: Takes::Nothing,
         help: "Print to standard error how often each instruction of the programs ran, and each jump was taken",
     },
-    Argument {
+    ArgumentWords {
         name: "client-lines",
         takes: Takes::Value("MAP"),
         help: "The source map of the program for clients' datagrams, whose lines --trace and --cover print",
     },
-    Argument {
+    ArgumentWords {
         name: "peer-lines",
         takes: Takes::Value("MAP"),
         help: "The source map of the program for peers' datagrams, whose lines --trace and --cover print",
     },
-    Argument {
+    ArgumentWords {
         name: "against",
         takes: Takes::Value("FILE"),
         help: "Print only the answers that differ with this program for clients' datagrams, and how many there are",
     },
-    Argument {
+    ArgumentWords {
         name: "against-peer",
         takes: Takes::Value("FILE"),
         help: "Print only the answers that differ with this program for peers' datagrams, and how many there are",
@@ -282,98 +282,98 @@ const REPLAY: &[Argument] = &[
 ];
 
 /// Those of `serve` alone.
-pub(crate) const SERVE: &[Argument] = &[
-    Argument {
+pub(crate) const SERVE: &[ArgumentWords] = &[
+    ArgumentWords {
         name: "port",
         takes: Takes::NeededValue("P"),
         help: "The UDP port for clients; TURN's own is 3478",
     },
-    Argument {
+    ArgumentWords {
         name: "options",
         takes: Takes::Value("FILE"),
         help: "A file of further options, one a line as on the command line; # begins a comment",
     },
-    Argument {
+    ArgumentWords {
         name: "listen",
         takes: Takes::Value("A"),
         help: "The IPv4 address that the sockets are bound to; 127.0.0.1 by default",
     },
-    Argument {
+    ArgumentWords {
         name: "listen6",
         takes: Takes::Value("A"),
         help: "An IPv6 address that each slot has a further socket at; none by default",
     },
-    Argument {
+    ArgumentWords {
         name: "buffer",
         takes: Takes::Value("BYTES"),
         help: "What each socket holds of datagrams that came, and of those to send; 4194304 by default",
     },
-    Argument {
+    ArgumentWords {
         name: "reuse-port",
         takes: Takes::Nothing,
         help: "Let other processes serve the same port; the system keeps each client with one of them",
     },
-    Argument {
+    ArgumentWords {
         name: "deny",
         takes: Takes::Values("NETWORK"),
         help: "A network, as 10.0.0.0/8, that nothing is sent to; may be repeated, and the longest prefix decides",
     },
-    Argument {
+    ArgumentWords {
         name: "allow",
         takes: Takes::Values("NETWORK"),
         help: "A network of one that nothing is sent to, that is sent to all the same; may be repeated",
     },
-    Argument {
+    ArgumentWords {
         name: "relayed-ports",
         takes: Takes::Value("P-P"),
         help: "The ports of the server's own addresses that are sent to; those of the slots by default",
     },
-    Argument {
+    ArgumentWords {
         name: "unconfined",
         takes: Takes::Nothing,
         help: "Let the programs send to and from peers that clients haven't permitted",
     },
-    Argument {
+    ArgumentWords {
         name: "shadow-client",
         takes: Takes::Value("FILE"),
         help: "A program that runs beside that for clients' datagrams and decides nothing; where it differs is counted",
     },
-    Argument {
+    ArgumentWords {
         name: "shadow-peer",
         takes: Takes::Value("FILE"),
         help: "A program that runs beside that for peers' datagrams and decides nothing; where it differs is counted",
     },
-    Argument {
+    ArgumentWords {
         name: "rounds",
         takes: Takes::Value("N"),
         help: "End after N rounds, which never wait: each tries one receive at each socket",
     },
-    Argument {
+    ArgumentWords {
         name: "nonce-lifetime",
         takes: Takes::Value("S"),
         help: "The seconds after which a new nonce is drawn; 3600 by default",
     },
-    Argument {
+    ArgumentWords {
         name: "stats",
         takes: Takes::Value("S"),
         help: "Print counters to standard error each S seconds, and after the last round",
     },
-    Argument {
+    ArgumentWords {
         name: "metrics",
         takes: Takes::Value("FILE"),
         help: "Write the counters to a file each 15 seconds, in the text format of Prometheus",
     },
-    Argument {
+    ArgumentWords {
         name: "record",
         takes: Takes::Value("FILE"),
         help: "Write each event to a new file, as replay reads it: what users send is in it",
     },
-    Argument {
+    ArgumentWords {
         name: "record-limit",
         takes: Takes::Value("BYTES"),
         help: "What the file of --record has at most, in whole lines; 1073741824 by default",
     },
-    Argument {
+    ArgumentWords {
         name: "log",
         takes: Takes::Nothing,
         help: "Print allocations and refused credentials to standard error, at most 100 lines a second",
@@ -381,13 +381,13 @@ pub(crate) const SERVE: &[Argument] = &[
 ];
 
 /// Those of `check`.
-const CHECK: &[Argument] = &[
-    Argument {
+const CHECK: &[ArgumentWords] = &[
+    ArgumentWords {
         name: "server",
         takes: Takes::Word("HOST:PORT"),
         help: "The server: its address, or its name, and the port for clients",
     },
-    Argument {
+    ArgumentWords {
         name: "user",
         takes: Takes::Value("NAME:PASSWORD"),
         help: "A user to make an allocation with, whose name ends at the first colon; none by default",

@@ -12,7 +12,7 @@ ghost use Rattle.std.specs.Prelude.{◌≡◌, true, false, IfOk};
 ghost use Rattle.clap.specs.Words.{has_subcommand};
 ghost use Rattle.command_line.specs.Commands.{IsLocal, RequiresSubcommand};
 
-use crate::arguments::{Argument, SUBCOMMANDS, SubcommandWords, Takes};
+use crate::arguments::{ArgumentWords, SUBCOMMANDS, SubcommandWords, Takes};
 use clap::{Arg, ArgAction, ArgMatches, Command, Error};
 pub use lines::{OptionFault, OptionWords, option_of_line};
 pub use matches::subcommand_of;
@@ -20,7 +20,7 @@ pub use relayed::{RelayedError, relayed_ip, relayed_ip6};
 use std::alloc::{AllocError, Global};
 use std::convert::AsStr;
 use std::net::{Ipv4Addr, Ipv6Addr};
-pub use values::ValueError;
+pub use values::OptionError;
 
 /// What `--version` prints: the version, and the kit whose prover and compiler made the program.
 const VERSION: &str = "0.1.0, proved by rattle-kit-13f";
@@ -213,7 +213,7 @@ pub enum Subcommand<'a> {
 }
 
 /// Returns an argument.
-fn arg<'a>(alloc: Global, argument: &Argument) -> Arg<'a>
+fn arg<'a>(alloc: Global, argument: &ArgumentWords) -> Arg<'a>
     ensures { result.global ≡ false }
 {
     let arg = Arg::new(alloc, argument.name).help(argument.help);
@@ -240,7 +240,7 @@ fn arg<'a>(alloc: Global, argument: &Argument) -> Arg<'a>
 fn with_arguments<'a>(
     alloc: Global,
     command: Command<'a>,
-    arguments: &[Argument],
+    arguments: &[ArgumentWords],
 ) -> Result<Command<'a>, AllocError>
     requires { IsLocal command }
     ensures { IfOk result IsLocal }

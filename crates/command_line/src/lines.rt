@@ -1,6 +1,6 @@
 //! The options of a server as lines of a file.
 
-use crate::arguments::{Argument, RELAY, SERVE, Takes};
+use crate::arguments::{ArgumentWords, RELAY, SERVE, Takes};
 use thiserror::Error;
 
 /// Why a line of a file of options has none.
@@ -26,12 +26,12 @@ pub struct OptionWords<'a> {
 }
 
 /// Returns whether an argument is the option of a name.
-fn is_option(argument: &Argument, name: &str) -> bool {
+fn is_option(argument: &ArgumentWords, name: &str) -> bool {
     argument.name == name && !matches!(argument.takes, Takes::Word(_))
 }
 
 /// Returns what the option of a name takes.
-fn taken(arguments: &[Argument], name: &str) -> Option<Takes> {
+fn taken(arguments: &[ArgumentWords], name: &str) -> Option<Takes> {
     let found = arguments.iter().find(|argument| is_option(argument, name))?;
     Some(found.takes)
 }

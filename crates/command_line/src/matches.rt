@@ -3,7 +3,7 @@
 use crate::defaults::{
     BUFFER, FIRST_PORT, LISTEN, NONCE, NONCE_LIFETIME, REALM, RECORD_LIMIT, SLOTS,
 };
-use crate::values::{ValueError, buffer, ip, ip6, number, octets6, port, seconds, slots};
+use crate::values::{OptionError, buffer, ip, ip6, number, octets6, port, seconds, slots};
 use crate::{Options, ReplayOptions, ServerOptions, Subcommand, TraceOptions};
 use clap::ArgMatches;
 use std::net::{Ipv4Addr, Ipv6Addr};
@@ -100,7 +100,7 @@ fn trace_of<'a>(matches: &'a ArgMatches<'_>) -> Option<Subcommand<'a>> {
 ///
 /// # Errors
 /// Where the slot is no number.
-fn explain_of<'a>(matches: &'a ArgMatches<'_>) -> Result<Option<Subcommand<'a>>, ValueError<'a>> {
+fn explain_of<'a>(matches: &'a ArgMatches<'_>) -> Result<Option<Subcommand<'a>>, OptionError<'a>> {
     let Some(file) = text(matches, "file") else {
         return Ok(None);
     };
@@ -113,7 +113,7 @@ fn explain_of<'a>(matches: &'a ArgMatches<'_>) -> Result<Option<Subcommand<'a>>,
 ///
 /// # Errors
 /// The first text that spells no value of its option.
-fn options_of<'a>(matches: &'a ArgMatches<'_>) -> Result<Options<'a>, ValueError<'a>> {
+fn options_of<'a>(matches: &'a ArgMatches<'_>) -> Result<Options<'a>, OptionError<'a>> {
     let relay_ip6 = octets6("--relay-ip6 <HEX>", text(matches, "relay-ip6"))?;
     let count = slots("--slots <N>", text(matches, "slots"))?;
     let user_slots = slots("--user-slots <N>", text(matches, "user-slots"))?;
@@ -140,7 +140,7 @@ fn options_of<'a>(matches: &'a ArgMatches<'_>) -> Result<Options<'a>, ValueError
 ///
 /// # Errors
 /// The first text that spells no value of its option.
-fn replay_of<'a>(matches: &'a ArgMatches<'_>) -> Result<Option<Subcommand<'a>>, ValueError<'a>> {
+fn replay_of<'a>(matches: &'a ArgMatches<'_>) -> Result<Option<Subcommand<'a>>, OptionError<'a>> {
     let Some(events) = text(matches, "events") else {
         return Ok(None);
     };
@@ -163,7 +163,7 @@ fn replay_of<'a>(matches: &'a ArgMatches<'_>) -> Result<Option<Subcommand<'a>>, 
 
 /// What a server's sockets are bound to, and what they hold.
 #[derive(Clone, Copy)]
-struct Sockets {
+struct SocketValues {
     listen: Ipv4Addr,
     listen6: Option<Ipv6Addr>,
     buffer: i32,
@@ -173,11 +173,11 @@ struct Sockets {
 ///
 /// # Errors
 /// The first text that spells no value of its option.
-fn sockets_of<'a>(matches: &'a ArgMatches<'_>) -> Result<Sockets, ValueError<'a>> {
+fn sockets_of<'a>(matches: &'a ArgMatches<'_>) -> Result<SocketValues, OptionError<'a>> {
     let listen = ip("--listen <A>", text(matches, "listen"))?;
     let listen6 = ip6("--listen6 <A>", text(matches, "listen6"))?;
     let buffer = buffer("--buffer <BYTES>", text(matches, "buffer"))?;
-    Ok(Sockets {
+    Ok(SocketValues {
         listen: listen.unwrap_or(LISTEN),
         listen6,
         buffer: buffer.unwrap_or(BUFFER),
@@ -196,7 +196,7 @@ struct Limits {
 ///
 /// # Errors
 /// The first text that spells no value of its option.
-fn limits_of<'a>(matches: &'a ArgMatches<'_>) -> Result<Limits, ValueError<'a>> {
+fn limits_of<'a>(matches: &'a ArgMatches<'_>) -> Result<Limits, OptionError<'a>> {
     let nonce_lifetime = seconds("--nonce-lifetime <S>", text(matches, "nonce-lifetime"))?;
     let stats = seconds("--stats <S>", text(matches, "stats"))?;
     let record_limit = number("--record-limit <BYTES>", text(matches, "record-limit"))?;
@@ -211,7 +211,7 @@ fn limits_of<'a>(matches: &'a ArgMatches<'_>) -> Result<Limits, ValueError<'a>> 
 ///
 /// # Errors
 /// The first text that spells no value of its option.
-fn serve_of<'a>(matches: &'a ArgMatches<'_>) -> Result<Option<Subcommand<'a>>, ValueError<'a>> {
+fn serve_of<'a>(matches: &'a ArgMatches<'_>) -> Result<Option<Subcommand<'a>>, OptionError<'a>> {
     let Some(port) = port("--port <P>", text(matches, "port"))? else {
         return Ok(None);
     };
@@ -253,7 +253,7 @@ fn check_of<'a>(matches: &'a ArgMatches<'_>) -> Option<Subcommand<'a>> {
 fn named<'a>(
     name: &str,
     matches: &'a ArgMatches<'_>,
-) -> Result<Option<Subcommand<'a>>, ValueError<'a>> {
+) -> Result<Option<Subcommand<'a>>, OptionError<'a>> {
     match name {
         "assemble" => Ok(assemble_of(matches)),
         "order" => Ok(order_of(matches)),
@@ -279,7 +279,7 @@ fn named<'a>(
 /// See docs/DECISIONS.md, "Numbers of options".
 pub fn subcommand_of<'a>(
     matches: &'a ArgMatches<'_>,
-) -> Result<Option<Subcommand<'a>>, ValueError<'a>> {
+) -> Result<Option<Subcommand<'a>>, OptionError<'a>> {
     match matches.subcommand() {
         Some((name, matches)) => named(name, matches),
         None => Ok(None),

@@ -15,7 +15,7 @@ const MOST_BUFFER: u64 = 0x3fff_ffff;
 /// A text that spells no value of its option. Displays as the line for standard error.
 #[derive(Clone, Copy, Debug, PartialEq, Eq, Error)]
 #[error("error: invalid value '{text}' for '{option}'")]
-pub struct ValueError<'a> {
+pub struct OptionError<'a> {
     /// The option, as the help text writes it.
     pub option: &'static str,
     /// The text.
@@ -26,7 +26,7 @@ pub struct ValueError<'a> {
 pub(crate) fn number<'a>(
     option: &'static str,
     text: Option<&'a str>,
-) -> Result<Option<u64>, ValueError<'a>>
+) -> Result<Option<u64>, OptionError<'a>>
     ensures value { IfOk result (HasValue (IsDecimal (2 ^ 64)) (text_of text.entry)) }
     ensures refused { IfErr result (IsRefusedValue option.entry.now (IsDecimal (2 ^ 64)) (text_of text.entry)) }
 {
@@ -35,7 +35,7 @@ pub(crate) fn number<'a>(
     };
     match text.parse() {
         Ok(number) => Ok(Some(number)),
-        Err(_) => Err(ValueError { option, text }),
+        Err(_) => Err(OptionError { option, text }),
     }
 }
 
@@ -43,7 +43,7 @@ pub(crate) fn number<'a>(
 pub(crate) fn slots<'a>(
     option: &'static str,
     text: Option<&'a str>,
-) -> Result<Option<usize>, ValueError<'a>>
+) -> Result<Option<usize>, OptionError<'a>>
     ensures value { IfOk result (HasValue (IsDecimal (2 ^ 64)) (text_of text.entry)) }
     ensures refused { IfErr result (IsRefusedValue option.entry.now (IsDecimal (2 ^ 64)) (text_of text.entry)) }
 {
@@ -52,7 +52,7 @@ pub(crate) fn slots<'a>(
     };
     match text.parse() {
         Ok(slots) => Ok(Some(slots)),
-        Err(_) => Err(ValueError { option, text }),
+        Err(_) => Err(OptionError { option, text }),
     }
 }
 
@@ -60,7 +60,7 @@ pub(crate) fn slots<'a>(
 pub(crate) fn port<'a>(
     option: &'static str,
     text: Option<&'a str>,
-) -> Result<Option<u16>, ValueError<'a>>
+) -> Result<Option<u16>, OptionError<'a>>
     ensures value { IfOk result (HasValue (IsDecimal (2 ^ 16)) (text_of text.entry)) }
     ensures refused { IfErr result (IsRefusedValue option.entry.now (IsDecimal (2 ^ 16)) (text_of text.entry)) }
 {
@@ -69,7 +69,7 @@ pub(crate) fn port<'a>(
     };
     match text.parse() {
         Ok(port) => Ok(Some(port)),
-        Err(_) => Err(ValueError { option, text }),
+        Err(_) => Err(OptionError { option, text }),
     }
 }
 
@@ -77,7 +77,7 @@ pub(crate) fn port<'a>(
 pub(crate) fn ip<'a>(
     option: &'static str,
     text: Option<&'a str>,
-) -> Result<Option<Ipv4Addr>, ValueError<'a>>
+) -> Result<Option<Ipv4Addr>, OptionError<'a>>
     ensures value { IfOk result (HasValue IsIpv4Text (text_of text.entry)) }
     ensures refused { IfErr result (IsRefusedValue option.entry.now IsIpv4Text (text_of text.entry)) }
 {
@@ -86,7 +86,7 @@ pub(crate) fn ip<'a>(
     };
     match text.parse() {
         Ok(ip) => Ok(Some(ip)),
-        Err(_) => Err(ValueError { option, text }),
+        Err(_) => Err(OptionError { option, text }),
     }
 }
 
@@ -94,7 +94,7 @@ pub(crate) fn ip<'a>(
 pub(crate) fn ip6<'a>(
     option: &'static str,
     text: Option<&'a str>,
-) -> Result<Option<Ipv6Addr>, ValueError<'a>>
+) -> Result<Option<Ipv6Addr>, OptionError<'a>>
     ensures value { IfOk result (HasValue IsIpv6Text (text_of text.entry)) }
     ensures refused { IfErr result (IsRefusedValue option.entry.now IsIpv6Text (text_of text.entry)) }
 {
@@ -103,7 +103,7 @@ pub(crate) fn ip6<'a>(
     };
     match text.parse() {
         Ok(ip) => Ok(Some(ip)),
-        Err(_) => Err(ValueError { option, text }),
+        Err(_) => Err(OptionError { option, text }),
     }
 }
 
@@ -111,7 +111,7 @@ pub(crate) fn ip6<'a>(
 pub(crate) fn octets6<'a>(
     option: &'static str,
     text: Option<&'a str>,
-) -> Result<Option<[u8; 16]>, ValueError<'a>>
+) -> Result<Option<[u8; 16]>, OptionError<'a>>
     ensures value { IfOk result (HasValue AreOctets6 (text_of text.entry)) }
     ensures refused { IfErr result (IsRefusedValue option.entry.now AreOctets6 (text_of text.entry)) }
 {
@@ -120,7 +120,7 @@ pub(crate) fn octets6<'a>(
     };
     match <[u8; 16] as FromHex>::from_hex(text) {
         Ok(octets) => Ok(Some(octets)),
-        Err(_) => Err(ValueError { option, text }),
+        Err(_) => Err(OptionError { option, text }),
     }
 }
 
@@ -128,7 +128,7 @@ pub(crate) fn octets6<'a>(
 pub(crate) fn seconds<'a>(
     option: &'static str,
     text: Option<&'a str>,
-) -> Result<Option<u64>, ValueError<'a>>
+) -> Result<Option<u64>, OptionError<'a>>
     ensures value { IfOk result (HasValue IsSeconds (text_of text.entry)) }
     ensures refused { IfErr result (IsRefusedValue option.entry.now IsSeconds (text_of text.entry)) }
 {
@@ -137,7 +137,7 @@ pub(crate) fn seconds<'a>(
     };
     match text.parse() {
         Ok(seconds) if seconds > 0 => Ok(Some(seconds)),
-        _ => Err(ValueError { option, text }),
+        _ => Err(OptionError { option, text }),
     }
 }
 
@@ -145,7 +145,7 @@ pub(crate) fn seconds<'a>(
 pub(crate) fn buffer<'a>(
     option: &'static str,
     text: Option<&'a str>,
-) -> Result<Option<i32>, ValueError<'a>>
+) -> Result<Option<i32>, OptionError<'a>>
     ensures value { IfOk result (HasValue IsBuffer (text_of text.entry)) }
     ensures refused { IfErr result (IsRefusedValue option.entry.now IsBuffer (text_of text.entry)) }
 {
@@ -155,6 +155,6 @@ pub(crate) fn buffer<'a>(
     let parsed: Result<u64, _> = text.parse();
     match parsed {
         Ok(bytes @ 1..=MOST_BUFFER) => Ok(Some(bytes as i32)),
-        _ => Err(ValueError { option, text }),
+        _ => Err(OptionError { option, text }),
     }
 }

@@ -24,7 +24,7 @@ use Rattle.insn.specs.declared.operator.Extension.{Extension}
 use Rattle.insn.specs.declared.operator.Extension.TheVariants.{ByteTo32, HalfTo32, ByteTo64, HalfTo64, WordTo64}
 use Rattle.insn.specs.declared.size.SwapSize.{SwapSize}
 use Rattle.insn.specs.declared.size.SwapSize.TheVariants as swap
-use Rattle.insn.specs.declared.opcode.Source.TheVariants as source
+use Rattle.insn.specs.declared.opcode.OperandSource.TheVariants as source
 use Rattle.insn.specs.declared.opcode.Opcode.{Opcode}
 use Rattle.insn.specs.declared.opcode.Opcode.TheVariants as opcode
 use Rattle.insn.specs.declared.instruction.Operand.{Operand}

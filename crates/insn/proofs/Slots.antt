@@ -17,7 +17,7 @@ use Rattle.insn.specs.declared.width.Width.TheVariants.{W32, W64}
 use Rattle.insn.specs.declared.operator.Extension.{Extension}
 use Rattle.insn.specs.declared.fields.Fields.{Fields}
 use Rattle.insn.specs.declared.register.Reg.{Reg}
-use Rattle.insn.specs.declared.opcode.Source.TheVariants as source
+use Rattle.insn.specs.declared.opcode.OperandSource.TheVariants as source
 use Rattle.insn.specs.declared.opcode.Opcode.{Opcode}
 use Rattle.insn.specs.declared.opcode.Opcode.TheVariants as opcode
 

@@ -28,8 +28,8 @@ use Rattle.insn.specs.declared.size.SwapSize.TheVariants as swap
 use Rattle.insn.specs.declared.fields.Fields.{Fields}
 use Rattle.insn.specs.declared.opcode.AluCode.{AluCode}
 use Rattle.insn.specs.declared.opcode.AluCode.TheVariants as code
-use Rattle.insn.specs.declared.opcode.Source.{Source}
-use Rattle.insn.specs.declared.opcode.Source.TheVariants as source
+use Rattle.insn.specs.declared.opcode.OperandSource.{OperandSource}
+use Rattle.insn.specs.declared.opcode.OperandSource.TheVariants as source
 use Rattle.insn.specs.declared.opcode.Opcode.{Opcode}
 use Rattle.insn.specs.declared.opcode.Opcode.TheVariants as opcode
 use Rattle.insn.specs.declared.instruction.Operand.{Operand}
@@ -67,10 +67,10 @@ unfolding widths
 width_at W32 = (0, refl)
 width_at W64 = (1, refl)
 
-sources : List Source
+sources : List OperandSource
 sources = source.Imm ∷ source.Reg ∷ []
 
-source_at : (x : Source) → (k : ℕ) × (at sources k ≡ Some x)
+source_at : (x : OperandSource) → (k : ℕ) × (at sources k ≡ Some x)
 unfolding sources
 source_at source.Imm = (0, refl)
 source_at source.Reg = (1, refl)
@@ -153,10 +153,10 @@ unfolding registers
 number_small r = let small = code_below number_of 11 registers r refl (register_stands r) in omega arith
 
 -- every operation with every width and source
-with_sources : {X : Type 0} → (Width → X → Source → Opcode) → List X → List Opcode
+with_sources : {X : Type 0} → (Width → X → OperandSource → Opcode) → List X → List Opcode
 with_sources form all = flat_map (λ w. flat_map (λ x. map (form w x) sources) all) widths
 
-with_sources_stands : {X : Type 0} (form : Width → X → Source → Opcode) (all : List X) (w : Width) (x : X) (s : Source) → Among all x → Among (with_sources form all) (form w x s)
+with_sources_stands : {X : Type 0} (form : Width → X → OperandSource → Opcode) (all : List X) (w : Width) (x : X) (s : OperandSource) → Among all x → Among (with_sources form all) (form w x s)
 unfolding with_sources
 with_sources_stands form all w x s h =
     among-flat_map (λ v. flat_map (λ y. map (form v y) sources) all) widths w (form w x s) (stands widths width_at w)

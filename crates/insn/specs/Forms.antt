@@ -17,8 +17,8 @@ use Rattle.insn.specs.declared.fields.Fields.{Fields}
 use Rattle.insn.specs.declared.register.Reg.{Reg}
 use Rattle.insn.specs.declared.opcode.AluCode.{AluCode}
 use Rattle.insn.specs.declared.opcode.AluCode.TheVariants as code
-use Rattle.insn.specs.declared.opcode.Source.{Source}
-use Rattle.insn.specs.declared.opcode.Source.TheVariants as source
+use Rattle.insn.specs.declared.opcode.OperandSource.{OperandSource}
+use Rattle.insn.specs.declared.opcode.OperandSource.TheVariants as source
 use Rattle.insn.specs.declared.opcode.Opcode.{Opcode}
 use Rattle.insn.specs.declared.opcode.Opcode.TheVariants as opcode
 use Rattle.insn.specs.declared.instruction.Operand.{Operand}
@@ -29,7 +29,7 @@ use Rattle.insn.specs.declared.decoding.Head.{Head}
 use Rattle.insn.specs.declared.refusal.SlotError.{SlotError}
 use Rattle.insn.specs.declared.refusal.SlotError.TheVariants as fault
 
-abbrev pub with_source : Source → Reg → ℤ → Operand
+abbrev pub with_source : OperandSource → Reg → ℤ → Operand
 with_source source.Reg src imm = operand.Reg src
 with_source source.Imm src imm = operand.Imm imm
 
@@ -68,7 +68,7 @@ abbrev pub move_insn : Width → Reg → Reg → Option Extension → Insn
 move_insn width dst src (Some e) = SignExtend e dst src
 move_insn width dst src None = Mov width dst (operand.Reg src)
 
-abbrev pub move_form : Width → Source → Reg → Reg → ℤ → ℤ → Insn
+abbrev pub move_form : Width → OperandSource → Reg → Reg → ℤ → ℤ → Insn
 move_form width source.Reg dst src offset imm = move_insn width dst src (extension width offset)
 move_form width source.Imm dst src offset imm = Mov width dst (operand.Imm imm)
 

@@ -13,7 +13,7 @@ ghost use Rattle.insn.specs.declared.refusal.DecodeError.TheVariants.{Memory};
 
 use crate::fields::{Fields, SLOT_BYTES, read_slot};
 use crate::instruction::{Insn, Operand, joined};
-use crate::opcode::{Opcode, Source};
+use crate::opcode::{Opcode, OperandSource};
 use crate::operator::{AluOp, Extension};
 use crate::refusal::{DecodeError, SlotError};
 use crate::register::Reg;
@@ -29,21 +29,21 @@ pub fn law_limits()
     ensures slots { MAX_SLOTS ≡ 4096 }
 {}
 
-fn operand_of(source: Source, src: Reg, imm: i32) -> Operand
+fn operand_of(source: OperandSource, src: Reg, imm: i32) -> Operand
     ensures { result ≡ with_source source src imm }
 {
     match source {
-        Source::Reg => Operand::Reg(src),
-        Source::Imm => Operand::Imm(imm),
+        OperandSource::Reg => Operand::Reg(src),
+        OperandSource::Imm => Operand::Imm(imm),
     }
 }
 
 /// Returns the move or the sign extension that the offset of a slot chooses.
-fn move_of(width: Width, source: Source, head: Head, offset: i16, imm: i32) -> Insn
+fn move_of(width: Width, source: OperandSource, head: Head, offset: i16, imm: i32) -> Insn
     ensures { result ≡ move_form width source head.dst head.src offset imm }
 {
     match (source, Extension::chosen(width, offset)) {
-        (Source::Reg, Some(extension)) => Insn::SignExtend {
+        (OperandSource::Reg, Some(extension)) => Insn::SignExtend {
             extension,
             dst: head.dst,
             src: head.src,

@@ -7,7 +7,7 @@ ghost use Rattle.insn.specs.Opcode.{byte_of};
 
 use crate::condition::Condition;
 use crate::fields::Fields;
-use crate::opcode::{Opcode, Source};
+use crate::opcode::{Opcode, OperandSource};
 use crate::operator::{AluOp, Extension, SwapOp};
 use crate::register::Reg;
 use crate::size::{SignedSize, Size, SwapSize};
@@ -134,12 +134,12 @@ pub fn halves_join(value: u64)
 {}
 
 impl Operand {
-    fn source(self) -> Source
+    fn source(self) -> OperandSource
         ensures { result ≡ source_of self }
     {
         match self {
-            Operand::Reg(_) => Source::Reg,
-            Operand::Imm(_) => Source::Imm,
+            Operand::Reg(_) => OperandSource::Reg,
+            Operand::Imm(_) => OperandSource::Imm,
         }
     }
 
@@ -197,7 +197,10 @@ impl Insn {
             } => Opcode::Alu(width, op.code(), operand.source()),
             Insn::Mov { width, operand, .. } => Opcode::Mov(width, operand.source()),
             Insn::Neg { width, .. } => Opcode::Neg(width),
-            Insn::SignExtend { extension, .. } => Opcode::Mov(extension.target(), Source::Reg),
+            Insn::SignExtend { extension, .. } => Opcode::Mov(
+                extension.target(),
+                OperandSource::Reg,
+            ),
             Insn::Swap { op, .. } => Opcode::Swap(op),
             Insn::Jump { .. } => Opcode::Jump(Width::W64),
             Insn::LongJump { .. } => Opcode::Jump(Width::W32),

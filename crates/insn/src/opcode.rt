@@ -13,7 +13,7 @@ use crate::width::Width;
 
 /// The source of the second operand: the bit above the class.
 #[derive(Clone, Copy, Debug, PartialEq, Eq)]
-pub enum Source {
+pub enum OperandSource {
     /// `K`: the imm field.
     Imm,
     /// `X`: the src register.
@@ -40,9 +40,9 @@ pub enum AluCode {
 #[derive(Clone, Copy, Debug, PartialEq, Eq)]
 pub enum Opcode {
     /// Arithmetic with two operands, classes `ALU` and `ALU64`.
-    Alu(Width, AluCode, Source),
+    Alu(Width, AluCode, OperandSource),
     /// `MOV` and `MOVSX`.
-    Mov(Width, Source),
+    Mov(Width, OperandSource),
     /// `NEG`.
     Neg(Width),
     /// `END`.
@@ -50,7 +50,7 @@ pub enum Opcode {
     /// `JA`, with the distance in the offset field (class `JMP`) or in the imm field (class `JMP32`).
     Jump(Width),
     /// A conditional jump, classes `JMP` and `JMP32`.
-    JumpIf(Width, Condition, Source),
+    JumpIf(Width, Condition, OperandSource),
     /// `CALL` of class `JMP`, by the number of a helper.
     Call,
     /// `EXIT` of class `JMP`.
@@ -60,7 +60,7 @@ pub enum Opcode {
     /// `MEMSX` of class `LDX`.
     LoadSigned(SignedSize),
     /// `MEM` of class `ST` or `STX`.
-    Store(Size, Source),
+    Store(Size, OperandSource),
     /// `IMM` of class `LD`, in two slots.
     LoadImm,
 }
@@ -99,23 +99,23 @@ const MODE_MEM: u8 = 3;
 /// The mode `MEMSX`, the three high bits.
 const MODE_MEMSX: u8 = 4;
 
-impl Source {
+impl OperandSource {
     fn bit(self) -> u8
         ensures { result ≡ source_bit self }
     {
         match self {
-            Source::Imm => 0,
-            Source::Reg => 1,
+            OperandSource::Imm => 0,
+            OperandSource::Reg => 1,
         }
     }
 
-    fn from_bit(bit: u8) -> Option<Source>
+    fn from_bit(bit: u8) -> Option<OperandSource>
         ensures found { IfSome result (λ s. source_bit s ≡ bit) }
-        ensures only { (s : Source) → source_bit s ≡ bit → result ≡ Some s }
+        ensures only { (s : OperandSource) → source_bit s ≡ bit → result ≡ Some s }
     {
         match bit {
-            0 => Some(Source::Imm),
-            1 => Some(Source::Reg),
+            0 => Some(OperandSource::Imm),
+            1 => Some(OperandSource::Reg),
             _ => None,
         }
     }
@@ -180,12 +180,12 @@ fn jump_class(width: Width) -> u8
     }
 }
 
-fn store_class(source: Source) -> u8
+fn store_class(source: OperandSource) -> u8
     ensures { result ≡ store_class source }
 {
     match source {
-        Source::Imm => CLASS_ST,
-        Source::Reg => CLASS_STX,
+        OperandSource::Imm => CLASS_ST,
+        OperandSource::Reg => CLASS_STX,
     }
 }
 
@@ -227,8 +227,8 @@ impl Opcode {
             CLASS_JMP => Opcode::jump_of(byte, Width::W64),
             CLASS_JMP32 => Opcode::jump_of(byte, Width::W32),
             CLASS_LDX => Opcode::load_of(byte),
-            CLASS_ST => Opcode::store_of(byte, Source::Imm),
-            CLASS_STX => Opcode::store_of(byte, Source::Reg),
+            CLASS_ST => Opcode::store_of(byte, OperandSource::Imm),
+            CLASS_STX => Opcode::store_of(byte, OperandSource::Reg),
             _ => {
                 if byte == OPCODE_LDDW {
                     Some(Opcode::LoadImm)
@@ -258,12 +258,12 @@ impl Opcode {
         ensures found { IfSome result (λ o. byte_of o ≡ byte) }
         ensures only { (o : Opcode) → byte_of o ≡ byte → result ≡ Some o }
     {
-        let source = Source::from_bit(byte / 8 % 2)?;
+        let source = OperandSource::from_bit(byte / 8 % 2)?;
         match byte / 16 {
             CODE_MOV => Some(Opcode::Mov(width, source)),
             CODE_NEG => match source {
-                Source::Imm => Some(Opcode::Neg(width)),
-                Source::Reg => None,
+                OperandSource::Imm => Some(Opcode::Neg(width)),
+                OperandSource::Reg => None,
             },
             code => {
                 let code = AluCode::from_code(code)?;
@@ -286,7 +286,7 @@ impl Opcode {
         if byte == OPCODE_EXIT {
             return Some(Opcode::Exit);
         }
-        let source = Source::from_bit(byte / 8 % 2)?;
+        let source = OperandSource::from_bit(byte / 8 % 2)?;
         let condition = Condition::from_code(byte / 16)?;
         Some(Opcode::JumpIf(width, condition, source))
     }
@@ -304,7 +304,7 @@ impl Opcode {
         }
     }
 
-    fn store_of(byte: u8, source: Source) -> Option<Opcode>
+    fn store_of(byte: u8, source: OperandSource) -> Option<Opcode>
         requires { byte % 8 ≡ store_class source }
         ensures found { IfSome result (λ o. byte_of o ≡ byte) }
         ensures only { (o : Opcode) → byte_of o ≡ byte → result ≡ Some o }

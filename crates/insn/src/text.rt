@@ -36,9 +36,9 @@ impl fmt::Display for Operand {
 
 /// A displacement or a jump distance: a decimal number with its sign.
 #[derive(Clone, Copy)]
-struct Signed(i32);
+struct SignedDecimal(i32);
 
-impl fmt::Display for Signed {
+impl fmt::Display for SignedDecimal {
     ghost output = { λ s. Some (with_sign s.0) };
 
     fn fmt<W: fmt::Write>(&self, f: &mut fmt::Formatter<W>) -> fmt::Result {
@@ -168,16 +168,16 @@ impl fmt::Display for Address {
 
     fn fmt<W: fmt::Write>(&self, f: &mut fmt::Formatter<W>) -> fmt::Result {
         let base = self.base;
-        let displacement = Signed(i32::from(self.displacement));
+        let displacement = SignedDecimal(i32::from(self.displacement));
         write!(f, "[{base}{displacement}]")
     }
 }
 
 /// The mnemonic of an instruction.
 #[derive(Clone, Copy)]
-struct Mnemonic<'a>(&'a Insn);
+struct MnemonicText<'a>(&'a Insn);
 
-impl fmt::Display for Mnemonic<'_> {
+impl fmt::Display for MnemonicText<'_> {
     ghost output = { λ m. Some (mnemonic m.0.now) };
 
     fn fmt<W: fmt::Write>(&self, f: &mut fmt::Formatter<W>) -> fmt::Result {
@@ -231,11 +231,11 @@ impl fmt::Display for Arguments<'_> {
             Insn::Neg { dst, .. } | Insn::Swap { dst, .. } => write!(f, " {dst}"),
             Insn::SignExtend { dst, src, .. } => write!(f, " {dst}, {src}"),
             Insn::Jump { offset } => {
-                let distance = Signed(i32::from(offset));
+                let distance = SignedDecimal(i32::from(offset));
                 write!(f, " {distance}")
             }
             Insn::LongJump { offset } => {
-                let distance = Signed(offset);
+                let distance = SignedDecimal(offset);
                 write!(f, " {distance}")
             }
             Insn::JumpIf {
@@ -244,7 +244,7 @@ impl fmt::Display for Arguments<'_> {
                 offset,
                 ..
             } => {
-                let distance = Signed(i32::from(offset));
+                let distance = SignedDecimal(i32::from(offset));
                 write!(f, " {dst}, {operand}, {distance}")
             }
             Insn::Load {
@@ -288,7 +288,7 @@ impl fmt::Display for Insn {
     ghost output = { λ i. Some (spelling i) };
 
     fn fmt<W: fmt::Write>(&self, f: &mut fmt::Formatter<W>) -> fmt::Result {
-        let mnemonic = Mnemonic(self);
+        let mnemonic = MnemonicText(self);
         let arguments = Arguments(self);
         write!(f, "{mnemonic}{arguments}")
     }

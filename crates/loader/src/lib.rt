@@ -6,5 +6,5 @@ mod loading;
 mod refusal;
 
 pub use loaded::{BUDGET, Loaded, WEIGHT, law_limits, load};
-pub use loading::{LoadProgress, Loading, Remains};
+pub use loading::{LoadProgress, LoadRemains, Loading};
 pub use refusal::LoadError;

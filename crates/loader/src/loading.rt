@@ -47,18 +47,18 @@ pub enum LoadProgress {
     /// It goes on.
     Going(Loading),
     /// It is given up: its verification takes too long. What this has kept is still there.
-    GivenUp(Remains),
+    GivenUp(LoadRemains),
     /// It has ended: the program is loaded, or refused. What the verification has kept is still there.
-    Ended(Result<Loaded, Refusal>, Remains),
+    Ended(Result<Loaded, Refusal>, LoadRemains),
 }
 
 /// What a verification has kept, once it has ended. Where it is much, freeing it at once takes long.
 #[derive(Drop)]
-pub struct Remains {
+pub struct LoadRemains {
     states: verifier::Remains<Interval>,
 }
 
-impl Model for Remains {
+impl Model for LoadRemains {
     ghost use Rattle.std.specs.Prelude.{ℕ};
 
     ghost Value = { ℕ };
@@ -66,14 +66,14 @@ impl Model for Remains {
     ghost view = { λ r. r.states };
 }
 
-impl Remains {
+impl LoadRemains {
     /// Frees some of it, in `count` units of work. Returns the rest, `None` where nothing is left.
-    pub fn free(self, count: usize) -> Option<Remains>
+    pub fn free(self, count: usize) -> Option<LoadRemains>
         ensures left { IfSome result (λ left. left + count ≡ self) }
         ensures none { IfNone result (self < count) }
     {
         let states = self.states.free(count)?;
-        Some(Remains { states })
+        Some(LoadRemains { states })
     }
 }
 
@@ -120,11 +120,11 @@ impl Loading {
     }
 
     /// Gives the loading up, and returns what its verification has kept.
-    pub fn into_remains(self) -> Remains
+    pub fn into_remains(self) -> LoadRemains
         ensures { result ≡ units_to_free self.walk.kept }
     {
         let states = self.walk.into_remains();
-        Remains { states }
+        LoadRemains { states }
     }
 
     /// Goes on by work of the weight `slice`, or less where the verification ends. Whatever the slices are, it ends as
@@ -137,11 +137,11 @@ impl Loading {
                 walk,
                 left: self.left - slice,
             }),
-            Progress::Going(walk) => LoadProgress::GivenUp(Remains {
+            Progress::Going(walk) => LoadProgress::GivenUp(LoadRemains {
                 states: walk.into_remains(),
             }),
             Progress::Ended(result, states) => {
-                let remains = Remains { states };
+                let remains = LoadRemains { states };
                 match result {
                     Ok(program) => LoadProgress::Ended(Ok(Loaded { program }), remains),
                     Err(refusal) => LoadProgress::Ended(Err(refusal), remains),

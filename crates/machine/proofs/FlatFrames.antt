@@ -15,7 +15,7 @@ use Rattle.flat.specs.FlatSteps.{FlatEnvironment}
 use Rattle.flat.specs.Following.{flat_environment_of}
 use Rattle.flat.specs.FlatRuns.{IsStart, IsRun}
 use Rattle.flat.specs.laws.Flat.{laid_out_is_flat, laid_out_after, rest_from_headroom}
-use Rattle.flat.specs.declared.flat_run.Exit as flat_run
+use Rattle.flat.specs.declared.flat_run.FlatExit as flat_run
 use Rattle.machine.specs.declared.frame.Frame.TheInside.{Inside}
 use Rattle.machine.specs.Contents.{Contents, datagram_of, frame_area_size}
 use Rattle.machine.specs.FrameFields.{IsFrame}
@@ -90,7 +90,7 @@ module _ (answers : HelperAnswers) (lawful : IsLawful answers) (program : List I
   }
 
   -- the run of the code over this area, the area that it leaves, and the bytes of the frame afterwards, which are that area
-  module _ (exit : flat_run.Exit) {code : List Insn} {left kept : List ℕ} (code_is : code ≡ program) (runs : (v : Environment) (datagram : List ℕ) → IsStart g v datagram area → IsRun v code datagram area left exit) (kept_is : kept ≡ left) where
+  module _ (exit : flat_run.FlatExit) {code : List Insn} {left kept : List ℕ} (code_is : code ≡ program) (runs : (v : Environment) (datagram : List ℕ) → IsStart g v datagram area → IsRun v code datagram area left exit) (kept_is : kept ≡ left) where
     run : IsRun w program d area left exit
     run = subst (λ (c : List Insn). IsRun w c d area left exit) code_is (runs w d is_start)
 

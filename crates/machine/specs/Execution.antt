@@ -13,18 +13,18 @@ use Rattle.semantics.specs.declared.effect.Effect.{Effect}
 use Rattle.semantics.specs.declared.effect.Effect.TheVariants as effects
 use Rattle.semantics.specs.declared.fetching.Visit.{Visit}
 use Rattle.semantics.specs.declared.fetching.Position.{Position}
-use Rattle.flat.specs.declared.flat_run.Exit as flat_run
+use Rattle.flat.specs.declared.flat_run.FlatExit as flat_run
 use Rattle.machine.specs.Contexts.{HelperAnswers, environment_around, context_of}
 use Rattle.machine.specs.Contents.{Contents, datagram_of}
 use Rattle.machine.specs.Tracing.{run_of, safe_run_of, left_by, Reports}
-use Rattle.machine.specs.declared.environment.Environment as traced
+use Rattle.machine.specs.declared.environment.TraceInputs as traced
 use Rattle.machine.specs.declared.execution.StepResult.{StepResult}
 use Rattle.machine.specs.declared.execution.StepResult.TheVariants as code
 use Rattle.machine.specs.declared.execution.Exit.{Exit}
 use Rattle.machine.specs.declared.outcome.Stuck.{Stuck}
 
 -- the environment of the definitions' run, of what a trace is given
-abbrev pub traced_environment : {H : Type 0} → (H → HelperAnswers) → traced.Environment H → Environment
+abbrev pub traced_environment : {H : Type 0} → (H → HelperAnswers) → traced.TraceInputs H → Environment
 traced_environment answers given = environment_around (context_of given.context.now) (answers given.helpers.now)
 
 -- a state by its parts
@@ -94,7 +94,7 @@ pub record RunsOver {Log : Type 0} (Logs : Log → Visit → Log → Type 0) (an
   pub logged : Reports Logs old (run_of program before answers).path new
 
 -- The flat run over a started frame: its end, with the plan, and the frame as the run leaves it.
-pub record RunsFlat (answers : HelperAnswers) (program : List Insn) (before after : Contents) (exit : flat_run.Exit) : Type 0 where
+pub record RunsFlat (answers : HelperAnswers) (program : List Insn) (before after : Contents) (exit : flat_run.FlatExit) : Type 0 where
   pub is_datagram : IsDatagram (datagram_of before)
   pub length_is : length (datagram_of before) ≡ before.length
   pub is_context : IsContext (context_of before.context)

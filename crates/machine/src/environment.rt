@@ -13,7 +13,7 @@ use semantics::CONTEXT_BYTES;
 
 /// What a trace is given and does not change: its code, the context with its record, the helpers, and the datagram's length.
 #[derive(Drop)]
-pub(crate) struct Environment<'a, H> {
+pub(crate) struct TraceInputs<'a, H> {
     pub code: &'a [Insn],
     pub context: &'a Context,
     pub record: &'a [u8; CONTEXT_BYTES],

@@ -18,7 +18,7 @@ ghost use Rattle.machine.specs.Execution.{state_at, MakesStep, GoesAhead, GoesSt
 ghost use Rattle.machine.specs.Execution.{HasWindowInside, IsWholeRun, traced_environment};
 
 use crate::context::law_context;
-use crate::environment::Environment;
+use crate::environment::TraceInputs;
 use crate::outcome::Stuck;
 use crate::sink::Sink;
 use insn::Insn;
@@ -69,7 +69,7 @@ fn law_cells(stack: &StackMemory)
 /// The reason for which it is stuck.
 #[tactic(auto, using(semantics::specs::laws::Effect::effect_inside))]
 fn next_effect<H>(
-    given: &Environment<H>,
+    given: &TraceInputs<H>,
     stack: &StackMemory,
     bytes: &[u8],
     registers: &Registers,
@@ -191,7 +191,7 @@ struct TaggedState {
 
 /// Applies an effect to memory, registers and plan, after which the run goes on to the next instruction.
 fn apply<H: Helpers>(
-    given: &Environment<H>,
+    given: &TraceInputs<H>,
     stack: &mut StackMemory,
     bytes: &mut [u8],
     state: &mut TaggedState,
@@ -230,7 +230,7 @@ fn apply<H: Helpers>(
 /// Makes the step of the instruction at the position of a state, which the caller moves on. A step that ends the run
 /// changes neither memory nor plan.
 fn execute_step<H: Helpers>(
-    given: &Environment<H>,
+    given: &TraceInputs<H>,
     stack: &mut StackMemory,
     bytes: &mut [u8],
     state: &mut TaggedState,
@@ -271,7 +271,7 @@ fn execute_step<H: Helpers>(
 /// # Errors
 /// The step that is stuck.
 fn execute_from<H: Helpers, S: Sink>(
-    given: &Environment<H>,
+    given: &TraceInputs<H>,
     stack: &mut StackMemory,
     bytes: &mut [u8],
     state: &mut TaggedState,
@@ -316,7 +316,7 @@ fn execute_from<H: Helpers, S: Sink>(
 /// # Errors
 /// The step that is stuck.
 pub fn execute<H: Helpers, S: Sink>(
-    given: &Environment<H>,
+    given: &TraceInputs<H>,
     stack: &mut StackMemory,
     bytes: &mut [u8],
     plan: &mut Plan,

@@ -17,7 +17,7 @@ ghost use Rattle.machine.specs.Execution.{HasWindowInside, IsWholeRun, RunsOver,
 ghost use Rattle.machine.specs.Tracing.{run_of, IsOutcome, left_by, IsFrameRun, Reports, Shows};
 
 use crate::context::traced_record;
-use crate::environment::Environment;
+use crate::environment::TraceInputs;
 use crate::execution::{Exit, execute};
 use crate::frame::{Frame, clear_stack};
 use crate::outcome::{Outcome, Stuck};
@@ -38,7 +38,7 @@ const NO_PLAN: Plan = Plan {
 /// # Errors
 /// The step that is stuck.
 fn execute_in<H: Helpers, S: Sink>(
-    given: &Environment<H>,
+    given: &TraceInputs<H>,
     stack: &mut StackMemory,
     flat: &mut [u8],
     plan: &mut Plan,
@@ -85,7 +85,7 @@ fn run_frame<H: Helpers, S: Sink>(
     let record = traced_record(&mut frame.flat, &frame.context, length);
     frame.is_started = false;
     clear_stack(&mut frame.stack);
-    let given = Environment {
+    let given = TraceInputs {
         code,
         context: &frame.context,
         record: &record,

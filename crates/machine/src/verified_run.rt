@@ -10,7 +10,7 @@ use crate::context::{lay_out_context, side_number};
 use crate::frame::Frame;
 use crate::outcome::Outcome;
 use crate::tracing::destination_of;
-use flat::{Environment, Exit, run_flat};
+use flat::{FlatExit, RunInputs, run_flat};
 use semantics::Helpers;
 use verifier::Verified;
 
@@ -22,12 +22,12 @@ fn law_safe(program: &Verified)
 }
 
 /// Runs a verified program over the area of a started frame, to its exit. Afterwards the frame is not started.
-fn run_area<H: Helpers>(program: &Verified, frame: &mut Frame, helpers: &H) -> Exit
+fn run_area<H: Helpers>(program: &Verified, frame: &mut Frame, helpers: &H) -> FlatExit
     requires { frame.old.is_started ≡ true }
     ensures { RunsFlat (H.answers helpers.now) program.now frame.old frame.new result }
 {
     let size = frame.datagram().len();
-    let given = Environment {
+    let given = RunInputs {
         helpers,
         length: size,
         side: u64::from(side_number(frame.context.side)),

@@ -13,8 +13,8 @@ use Rattle.peer_filter.specs.declared.defaults.TheConstants.{ALLOWED_LOOPBACK_V6
 use Rattle.peer_filter.specs.declared.filter.FilterError.{FilterError}
 use Rattle.peer_filter.specs.declared.filter.FilterError.TheVariants.{Rules, Endpoints}
 use Rattle.peer_filter.specs.declared.filter.TheConstants.{MAX_RULES, MAX_ENDPOINTS}
-use Rattle.peer_filter.specs.declared.rule.Action.{Action}
-use Rattle.peer_filter.specs.declared.rule.Action.TheVariants.{Deny, Allow}
+use Rattle.peer_filter.specs.declared.rule.RuleAction.{RuleAction}
+use Rattle.peer_filter.specs.declared.rule.RuleAction.TheVariants.{Deny, Allow}
 use Rattle.peer_filter.specs.declared.rule.ServerEndpoint.{ServerEndpoint}
 use Rattle.peer_filter.specs.declared.rule.ServerEndpoint.TheVariants.{At, Port, Outside}
 use Rattle.peer_filter.specs.declared.rule.Loopback.{Loopback}
@@ -33,7 +33,7 @@ is_at peer (Outside ip first last) = is_same_ip ip peer && (nat_lt (port_of peer
 -- ---- rules
 
 -- whether a rule allows the addresses of its network
-abbrev pub is_allow : Action → Bool
+abbrev pub is_allow : RuleAction → Bool
 is_allow Deny = false
 is_allow Allow = true
 

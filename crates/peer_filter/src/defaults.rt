@@ -1,7 +1,7 @@
 //! The rules that hold without options.
 
 use crate::network::Network;
-use crate::rule::{Action, Rule};
+use crate::rule::{Rule, RuleAction};
 
 /// What is denied to every server.
 pub const ALWAYS_DENIED: [Rule; 12] = [
@@ -11,7 +11,7 @@ pub const ALWAYS_DENIED: [Rule; 12] = [
             address: 0,
             bits: 8,
         },
-        action: Action::Deny,
+        action: RuleAction::Deny,
     },
     // 169.254.0.0/16, link-local addresses (RFC 3927, section 2.1).
     Rule {
@@ -19,7 +19,7 @@ pub const ALWAYS_DENIED: [Rule; 12] = [
             address: 0xa9fe_0000,
             bits: 16,
         },
-        action: Action::Deny,
+        action: RuleAction::Deny,
     },
     // 224.0.0.0/3: multicast (RFC 5771), reserved addresses (RFC 1112, section 4) and the limited broadcast (RFC 919).
     Rule {
@@ -27,7 +27,7 @@ pub const ALWAYS_DENIED: [Rule; 12] = [
             address: 0xe000_0000,
             bits: 3,
         },
-        action: Action::Deny,
+        action: RuleAction::Deny,
     },
     // ::/96, IPv4-compatible addresses, with the unspecified one (RFC 4291, sections 2.5.2 and 2.5.5.1).
     Rule {
@@ -35,7 +35,7 @@ pub const ALWAYS_DENIED: [Rule; 12] = [
             address: 0,
             bits: 96,
         },
-        action: Action::Deny,
+        action: RuleAction::Deny,
     },
     // ::ffff:0:0/96, IPv4-mapped addresses (RFC 4291, section 2.5.5.2).
     Rule {
@@ -43,7 +43,7 @@ pub const ALWAYS_DENIED: [Rule; 12] = [
             address: 0xffff_0000_0000,
             bits: 96,
         },
-        action: Action::Deny,
+        action: RuleAction::Deny,
     },
     // 64:ff9b::/96, the well-known prefix of NAT64 (RFC 6052, section 2.1).
     Rule {
@@ -51,7 +51,7 @@ pub const ALWAYS_DENIED: [Rule; 12] = [
             address: 0x0064_ff9b_0000_0000_0000_0000_0000_0000,
             bits: 96,
         },
-        action: Action::Deny,
+        action: RuleAction::Deny,
     },
     // 64:ff9b:1::/48, the local-use prefix of NAT64 (RFC 8215, section 3).
     Rule {
@@ -59,7 +59,7 @@ pub const ALWAYS_DENIED: [Rule; 12] = [
             address: 0x0064_ff9b_0001_0000_0000_0000_0000_0000,
             bits: 48,
         },
-        action: Action::Deny,
+        action: RuleAction::Deny,
     },
     // 2001::/32, Teredo (RFC 4380, section 2.6).
     Rule {
@@ -67,7 +67,7 @@ pub const ALWAYS_DENIED: [Rule; 12] = [
             address: 0x2001_0000_0000_0000_0000_0000_0000_0000,
             bits: 32,
         },
-        action: Action::Deny,
+        action: RuleAction::Deny,
     },
     // 2002::/16, 6to4 (RFC 3056, section 2).
     Rule {
@@ -75,7 +75,7 @@ pub const ALWAYS_DENIED: [Rule; 12] = [
             address: 0x2002_0000_0000_0000_0000_0000_0000_0000,
             bits: 16,
         },
-        action: Action::Deny,
+        action: RuleAction::Deny,
     },
     // fd00:ec2::254/128, the metadata service of Amazon EC2, which hands out credentials.
     Rule {
@@ -83,7 +83,7 @@ pub const ALWAYS_DENIED: [Rule; 12] = [
             address: 0xfd00_0ec2_0000_0000_0000_0000_0000_0254,
             bits: 128,
         },
-        action: Action::Deny,
+        action: RuleAction::Deny,
     },
     // fe80::/10, link-local addresses (RFC 4291, section 2.5.6).
     Rule {
@@ -91,7 +91,7 @@ pub const ALWAYS_DENIED: [Rule; 12] = [
             address: 0xfe80_0000_0000_0000_0000_0000_0000_0000,
             bits: 10,
         },
-        action: Action::Deny,
+        action: RuleAction::Deny,
     },
     // ff00::/8, multicast (RFC 4291, section 2.7).
     Rule {
@@ -99,7 +99,7 @@ pub const ALWAYS_DENIED: [Rule; 12] = [
             address: 0xff00_0000_0000_0000_0000_0000_0000_0000,
             bits: 8,
         },
-        action: Action::Deny,
+        action: RuleAction::Deny,
     },
 ];
 
@@ -109,7 +109,7 @@ pub const LOOPBACK_V4: Rule = Rule {
         address: 0x7f00_0000,
         bits: 8,
     },
-    action: Action::Deny,
+    action: RuleAction::Deny,
 };
 
 /// ::1/128, the loopback address of IPv6 (RFC 4291, section 2.5.3).
@@ -118,7 +118,7 @@ pub const LOOPBACK_V6: Rule = Rule {
         address: 1,
         bits: 128,
     },
-    action: Action::Deny,
+    action: RuleAction::Deny,
 };
 
 /// The same, where the server listens at it: it lies in ::/96.
@@ -127,5 +127,5 @@ pub const ALLOWED_LOOPBACK_V6: Rule = Rule {
         address: 1,
         bits: 128,
     },
-    action: Action::Allow,
+    action: RuleAction::Allow,
 };

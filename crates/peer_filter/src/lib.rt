@@ -15,5 +15,5 @@ pub use laws::{
     law_rules_of_the_family_decide,
 };
 pub use network::{Network, NetworkError};
-pub use rule::{Action, Loopback, Rule, ServerEndpoint};
+pub use rule::{Loopback, Rule, RuleAction, ServerEndpoint};
 pub use server::ServerAddresses;

@@ -8,12 +8,12 @@ use attributes::Addr;
 
 /// What a rule does with the addresses of its network.
 #[derive(Clone, Copy, Debug, PartialEq, Eq)]
-pub enum Action {
+pub enum RuleAction {
     Deny,
     Allow,
 }
 
-impl Action {
+impl RuleAction {
     ghost use Rattle.std.specs.Prelude.{◌≡◌};
     ghost use Rattle.peer_filter.specs.Filters.{is_allow};
 
@@ -22,8 +22,8 @@ impl Action {
         ensures { result ≡ is_allow self }
     {
         match self {
-            Action::Deny => false,
-            Action::Allow => true,
+            RuleAction::Deny => false,
+            RuleAction::Allow => true,
         }
     }
 }
@@ -32,7 +32,7 @@ impl Action {
 #[derive(Clone, Copy, Debug, PartialEq, Eq)]
 pub struct Rule {
     pub network: Network,
-    pub action: Action,
+    pub action: RuleAction,
 }
 
 impl Default for Rule {
@@ -43,7 +43,7 @@ impl Default for Rule {
                 address: 0,
                 bits: 0,
             },
-            action: Action::Deny,
+            action: RuleAction::Deny,
         }
     }
 }

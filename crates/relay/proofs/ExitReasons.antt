@@ -13,8 +13,8 @@ use Rattle.programs.specs.Runs.{datagram_in, destination_in, planned_sending, ru
 use Rattle.programs.specs.declared.verdict.TheConstants.{PASSES, SENDS}
 use Rattle.relay.specs.ByPrograms.{Programs, disposition_by_run, disposition_of_datagram, disposition_of_sent, is_there, of_ending, of_passing, of_verdict, program_for}
 use Rattle.relay.specs.Reasons.{exit_slot, exit_unsent, missing_of_plan, missing_to_peer, reason_of, reason_of_datagram, unsent_by, unsent_by_ending, HoldsAtExit}
-use Rattle.relay.specs.declared.reason.Reason.{Reason}
-use Rattle.relay.specs.declared.reason.Reason.TheVariants.{Program}
+use Rattle.relay.specs.declared.reason.StepReason.{StepReason}
+use Rattle.relay.specs.declared.reason.StepReason.TheVariants.{Program}
 use Rattle.relay.specs.declared.reason.Unsent.{Unsent}
 use Rattle.relay.specs.declared.reason.Unsent.TheVariants.{Verdict, NoWindow, NoAllocation}
 use Rattle.rules.specs.Discards.{discard_in, ruled_disposition}
@@ -80,7 +80,7 @@ module _ (live : Rows) (s : State) where
 
 -- ---- the reason of a datagram
 
-abbrev named_by : Reason → Unsent
+abbrev named_by : StepReason → Unsent
 named_by (Program slot unsent) = unsent
 named_by reason = NoWindow
 

@@ -30,7 +30,7 @@ use Rattle.relay.specs.ByPrograms.{Programs, program_for, disposition_by_run, di
 use Rattle.programs.specs.Runs.{run_for}
 use Rattle.relay.specs.Reasons.{exit_slot, exit_unsent, reason_of, reason_of_datagram}
 use Rattle.relay.specs.Shipped.{AreShipped}
-use Rattle.relay.specs.declared.reason.Reason.TheVariants.{Done}
+use Rattle.relay.specs.declared.reason.StepReason.TheVariants.{Done}
 use Rattle.relay.specs.declared.reason.Unsent.{Unsent}
 use Rattle.relay.proofs.Confined.{all_relayed}
 use Rattle.relay.proofs.ShippedRules.{ClientServes, PeerServes, ends_relayed, ends_passed, no_channel_data, not_relayed}

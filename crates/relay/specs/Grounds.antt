@@ -10,7 +10,7 @@ use Rattle.rules.specs.declared.disposition.Disposition.{Disposition}
 use Rattle.relay.specs.Reasons.{exit_slot, exit_unsent, reason_of}
 use Rattle.relay.specs.Relays.{RelayContents}
 use Rattle.relay.specs.declared.explaining.Grounds.{Grounds}
-use Rattle.relay.specs.declared.reason.Reason.{Reason}
+use Rattle.relay.specs.declared.reason.StepReason.{StepReason}
 
 -- ---- what explains a step
 
@@ -30,5 +30,5 @@ grounds_of_line explains config r (Some (Datagram given bytes)) =
     if explains then Some (grounds_of config r given bytes) else None
 
 -- the reason of a step that did this, where there are grounds
-abbrev pub reason_by : Disposition → Option Grounds → Option Reason
+abbrev pub reason_by : Disposition → Option Grounds → Option StepReason
 reason_by done grounds = option_map (λ g. reason_of done g.ruled g.slot g.unsent) grounds

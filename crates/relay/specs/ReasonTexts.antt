@@ -11,8 +11,8 @@ use Rattle.rules.specs.declared.disposition.Discard.{Discard}
 use Rattle.rules.specs.declared.disposition.Discard.TheVariants as discard
 use Rattle.rules.specs.declared.disposition.Disposition.{Disposition}
 use Rattle.rules.specs.declared.disposition.Disposition.TheVariants.{Relayed, Answered, Discarded}
-use Rattle.relay.specs.declared.reason.Reason.{Reason}
-use Rattle.relay.specs.declared.reason.Reason.TheVariants as reason
+use Rattle.relay.specs.declared.reason.StepReason.{StepReason}
+use Rattle.relay.specs.declared.reason.StepReason.TheVariants as reason
 use Rattle.relay.specs.declared.reason.Unsent.{Unsent}
 use Rattle.relay.specs.declared.reason.Unsent.TheVariants as unsent
 
@@ -65,12 +65,12 @@ unsent_text unsent.NoAllocation = codes ", without an allocation"
 unsent_text unsent.NoDestination = codes ", without a destination"
 unsent_text unsent.OtherFamily = codes ", to another family"
 
-abbrev pub explanation_text : Reason → List ℕ
+abbrev pub explanation_text : StepReason → List ℕ
 explanation_text reason.NonceSet = codes "nonce set"
 explanation_text (reason.Done done) = disposition_text done
 explanation_text (reason.Program slot unsent) = codes "discarded by the program at slot " ++ (decimal slot ++ unsent_text unsent)
 
 -- what ends the line of an answer: a line feed, and before it a reason, if there is one
-abbrev pub line_ending : Option Reason → List ℕ
+abbrev pub line_ending : Option StepReason → List ℕ
 line_ending None = 10 ∷ []
 line_ending (Some reason) = codes " ; " ++ (explanation_text reason ++ 10 ∷ [])

@@ -24,8 +24,8 @@ use Rattle.rules.specs.declared.disposition.Discard.TheVariants.{ByProgram}
 use Rattle.rules.specs.declared.disposition.Disposition.{Disposition}
 use Rattle.rules.specs.declared.disposition.Disposition.TheVariants.{Discarded}
 use Rattle.relay.specs.ByPrograms.{Programs, program_for, disposition_of_datagram}
-use Rattle.relay.specs.declared.reason.Reason.{Reason}
-use Rattle.relay.specs.declared.reason.Reason.TheVariants.{NonceSet, Done, Program}
+use Rattle.relay.specs.declared.reason.StepReason.{StepReason}
+use Rattle.relay.specs.declared.reason.StepReason.TheVariants.{NonceSet, Done, Program}
 use Rattle.relay.specs.declared.reason.Unsent.{Unsent}
 use Rattle.relay.specs.declared.reason.Unsent.TheVariants.{Verdict, NoWindow, NoAllocation, NoDestination, OtherFamily}
 
@@ -95,23 +95,23 @@ HoldsAtExit from live verdict s OtherFamily = (verdict ≡ SENDS) × (client : A
 
 -- where a program sends nothing: why the rules send nothing, or where they send something, the slot of the exit, and why the
 -- program sends nothing there
-abbrev pub reason_of_exit : Option Discard → ℕ → Unsent → Reason
+abbrev pub reason_of_exit : Option Discard → ℕ → Unsent → StepReason
 reason_of_exit (Some reason) slot unsent = Done (Discarded reason)
 reason_of_exit None slot unsent = Program slot unsent
 
 -- by what a step did, why the rules send nothing, if they do, the slot of the exit, and why nothing is sent there
-abbrev pub reason_of : Disposition → Option Discard → ℕ → Unsent → Reason
+abbrev pub reason_of : Disposition → Option Discard → ℕ → Unsent → StepReason
 reason_of (Discarded ByProgram) ruled slot unsent = reason_of_exit ruled slot unsent
 reason_of done ruled slot unsent = Done done
 
-abbrev pub reason_of_datagram : Programs → Config → ℕ → List ℕ → Source → Rows → List ℕ → Reason
+abbrev pub reason_of_datagram : Programs → Config → ℕ → List ℕ → Source → Rows → List ℕ → StepReason
 reason_of_datagram programs config now tx from rows bytes =
     reason_of (disposition_of_datagram programs config now tx from rows bytes)
     (discard_in (ruled_disposition config now tx from rows bytes))
     (exit_slot programs tx from (rows_at now rows) bytes)
     (exit_unsent programs tx from (rows_at now rows) bytes)
 
-abbrev pub reason_of_event : Programs → Config → SystemState → Event → Reason
+abbrev pub reason_of_event : Programs → Config → SystemState → Event → StepReason
 reason_of_event programs config s (Datagram given bytes) =
     reason_of_datagram programs (with_nonce config s.nonce) (moment_of s.greatest given.now)
     given.tx given.from s.rows bytes

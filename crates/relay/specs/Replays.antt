@@ -9,7 +9,7 @@ use Rattle.events.specs.Lines.{line_of, answer_line, IsEvent}
 use Rattle.relay.specs.ByPrograms.{Programs, by_programs}
 use Rattle.relay.specs.Reasons.{reason_of_event}
 use Rattle.relay.specs.ReasonTexts.{line_ending}
-use Rattle.relay.specs.declared.reason.Reason.{Reason}
+use Rattle.relay.specs.declared.reason.StepReason.{StepReason}
 use Rattle.relay.specs.Relays.{RelayContents, state_of}
 use Rattle.relay.specs.declared.replaying.ReplayError.{ReplayError}
 use Rattle.relay.specs.declared.replaying.ReplayError.TheVariants as error
@@ -27,7 +27,7 @@ abbrev pub IsText : List ℕ → List Event → Type 0
 IsText text events = (text ≡ text_of_events events) ⊎ (text ++ 10 ∷ [] ≡ text_of_events events)
 
 -- why the answer to an event is so, where reasons are wanted
-abbrev pub reason_wanted : Bool → Programs → Config → SystemState → Event → Option Reason
+abbrev pub reason_wanted : Bool → Programs → Config → SystemState → Event → Option StepReason
 reason_wanted explains programs config s e = if explains then Some (reason_of_event programs config s e) else None
 
 -- the line of the answer of some programs to an event: the answer, the reason, if it is wanted, and a line feed

@@ -13,13 +13,13 @@ ghost use Rattle.relay.specs.Grounds.{reason_by};
 ghost use Rattle.relay.specs.Reasons.{exit_slot, missing_to_peer, reason_of_datagram, reason_of_event, unsent_by_run, HoldsAtExit};
 ghost use Rattle.relay.specs.ReasonTexts.{line_ending};
 ghost use Rattle.relay.specs.Replays.{answer_text};
-ghost use Rattle.relay.specs.declared.reason.Reason.TheVariants.{Program};
+ghost use Rattle.relay.specs.declared.reason.StepReason.TheVariants.{Program};
 ghost use Rattle.relay.specs.declared.reason.Unsent.{Unsent};
 ghost use Rattle.rules.specs.Systems.{SystemState};
 ghost use Rattle.semantics.specs.Runs.{Exited, Run};
 ghost use Rattle.tables.specs.Rows.{Rows, rows_at};
 
-use crate::reason::{Reason, Unsent, reason_of};
+use crate::reason::{StepReason, Unsent, reason_of};
 use crate::relay::Relay;
 use attributes::Addr;
 use events::{Parsed, Source, parse};
@@ -99,7 +99,7 @@ pub(crate) fn unsent_at(
 }
 
 /// Returns the reason of a step that did this, where there are grounds.
-pub(crate) fn reason_by(done: Disposition, grounds: Option<Grounds>) -> Option<Reason>
+pub(crate) fn reason_by(done: Disposition, grounds: Option<Grounds>) -> Option<StepReason>
     ensures { result ≡ reason_by done grounds }
 {
     let Grounds {
@@ -136,7 +136,7 @@ pub fn side_of(from: &Source) -> Side
 }
 
 /// Returns a reason where reasons are wanted.
-pub(crate) fn reason_if(explains: bool, reason: Reason) -> Option<Reason>
+pub(crate) fn reason_if(explains: bool, reason: StepReason) -> Option<StepReason>
     ensures { result ≡ (if explains then Some reason else None) }
 {
     if explains { Some(reason) } else { None }

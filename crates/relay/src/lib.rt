@@ -26,7 +26,7 @@ pub use events::{Action, Meta, Source};
 pub use explaining::{law_reasons_are_of_the_answers, side_of};
 pub use isolation::law_programs_keep_users_apart;
 pub use lines::next_line;
-pub use reason::{Reason, Unsent};
+pub use reason::{StepReason, Unsent};
 pub use relay::Relay;
 pub use replaying::ReplayError;
 pub use requests::law_requests_change_rows;

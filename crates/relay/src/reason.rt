@@ -16,7 +16,7 @@ use stun::registry::{ErrorCode, law_phrases_are_short};
 
 /// Why a step sent what it did, as a replay explains it.
 #[derive(Clone, Copy, Debug, PartialEq, Eq)]
-pub enum Reason {
+pub enum StepReason {
     /// The event was a nonce, which was set.
     NonceSet,
     /// This was done with the datagram. Where a program sends nothing and the rules would neither, it is why they wouldn't.
@@ -58,15 +58,15 @@ pub(crate) fn reason_of(
     ruled: Option<Discard>,
     slot: usize,
     unsent: Unsent,
-) -> Reason
+) -> StepReason
     ensures { result ≡ reason_of done ruled slot unsent }
 {
     match (done, ruled) {
         (Disposition::Discarded(Discard::ByProgram), Some(reason)) => {
-            Reason::Done(Disposition::Discarded(reason))
+            StepReason::Done(Disposition::Discarded(reason))
         }
-        (Disposition::Discarded(Discard::ByProgram), None) => Reason::Program { slot, unsent },
-        _ => Reason::Done(done),
+        (Disposition::Discarded(Discard::ByProgram), None) => StepReason::Program { slot, unsent },
+        _ => StepReason::Done(done),
     }
 }
 
@@ -176,17 +176,17 @@ fn push_unsent(text: &mut ArrayVec<u8, ENDING>, unsent: Unsent)
 }
 
 /// Appends the text of a reason.
-fn push_reason(text: &mut ArrayVec<u8, ENDING>, reason: Reason)
+fn push_reason(text: &mut ArrayVec<u8, ENDING>, reason: StepReason)
     requires { array_vec_len text.old + LONGEST ≤ ENDING }
     ensures bytes { text.new.items ≡ text.old.items ++ explanation_text reason }
     ensures len { array_vec_len text.new ≤ array_vec_len text.old + LONGEST }
 {
     match reason {
-        Reason::NonceSet => push_bytes(text, b"nonce set"),
-        Reason::Done(Disposition::Relayed) => push_bytes(text, b"relayed"),
-        Reason::Done(Disposition::Answered(response)) => push_response(text, response),
-        Reason::Done(Disposition::Discarded(reason)) => push_bytes(text, discard_text(reason)),
-        Reason::Program { slot, unsent } => {
+        StepReason::NonceSet => push_bytes(text, b"nonce set"),
+        StepReason::Done(Disposition::Relayed) => push_bytes(text, b"relayed"),
+        StepReason::Done(Disposition::Answered(response)) => push_response(text, response),
+        StepReason::Done(Disposition::Discarded(reason)) => push_bytes(text, discard_text(reason)),
+        StepReason::Program { slot, unsent } => {
             push_bytes(text, b"discarded by the program at slot ");
             push_number(text, slot);
             push_unsent(text, unsent);
@@ -195,7 +195,7 @@ fn push_reason(text: &mut ArrayVec<u8, ENDING>, reason: Reason)
 }
 
 /// Returns what ends the line of an answer with this reason, line feed included.
-pub(crate) fn ending(reason: Reason) -> ArrayVec<u8, ENDING>
+pub(crate) fn ending(reason: StepReason) -> ArrayVec<u8, ENDING>
     ensures { result.items ≡ line_ending (Some reason) }
 {
     let mut text = ArrayVec::new();

@@ -10,7 +10,7 @@ ghost use Rattle.relay.specs.declared.replaying.ReplayError.TheVariants as error
 
 use crate::explaining::{reason_by, reason_if};
 use crate::lines::next_line;
-use crate::reason::{Reason, ending};
+use crate::reason::{StepReason, ending};
 use crate::relay::Relay;
 use basics::streams::{Failed, Input, Output};
 use events::{Action, Parsed, parse, write_answer};
@@ -42,7 +42,7 @@ pub enum ReplayError {
 fn write_with<W: Write>(
     output: &mut Output<W>,
     action: &Action<'_>,
-    reason: Option<Reason>,
+    reason: Option<StepReason>,
 ) -> Result<(), Failed>
     requires { output.old.failed ≡ false }
     ensures ok { OnOk result (Appends output.old.contents output.new.contents
@@ -100,7 +100,7 @@ impl Relay {
                 write_with(
                     output,
                     &Action::Nothing,
-                    reason_if(explains, Reason::NonceSet),
+                    reason_if(explains, StepReason::NonceSet),
                 )?;
                 Ok(true)
             }

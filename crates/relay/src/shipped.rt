@@ -12,7 +12,7 @@ ghost use Rattle.events.specs.declared.meta.Source.{Source};
 ghost use Rattle.programs.specs.Relaying.{IsRelayStart};
 ghost use Rattle.relay.specs.ByPrograms.{Programs, by_programs, is_there};
 ghost use Rattle.relay.specs.Reasons.{reason_of_datagram};
-ghost use Rattle.relay.specs.declared.reason.Reason.TheVariants.{Done};
+ghost use Rattle.relay.specs.declared.reason.StepReason.TheVariants.{Done};
 ghost use Rattle.tables.specs.Rows.{Rows};
 ghost use Rattle.rules.specs.ByRules.{by_rules};
 ghost use Rattle.rules.specs.Discards.{ruled_disposition};

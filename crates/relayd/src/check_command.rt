@@ -1,7 +1,7 @@
 //! Checking a server as a client does.
 
 use crate::error::{CommandError, end};
-use command_line::ValueError;
+use command_line::OptionError;
 use rand::make_rng;
 use rand::rngs::StdRng;
 use server_check::{Account, check as check_server};
@@ -18,7 +18,7 @@ fn account_of<'a>(text: Option<&'a str>) -> Result<Option<Account<'a>>, CommandE
     };
     match text.split_once(':') {
         Some((name, password)) => Ok(Some(Account { name, password })),
-        None => Err(CommandError::Value(ValueError { option, text })),
+        None => Err(CommandError::Value(OptionError { option, text })),
     }
 }
 

@@ -1,7 +1,7 @@
 //! What confines the programs, by the options.
 
 use crate::error::CommandError;
-use command_line::{Options, ValueError};
+use command_line::{OptionError, Options};
 use relay::{Alias, Confinement};
 use setup::alias;
 use std::alloc::Global;
@@ -15,7 +15,7 @@ fn aliases_of<'a>(alloc: Global, texts: &[&'a str]) -> Result<Vec<Alias>, Comman
     let mut aliases = Vec::new(alloc);
     for text in texts {
         let Some(alias) = alias(text) else {
-            return Err(CommandError::Value(ValueError { option, text }));
+            return Err(CommandError::Value(OptionError { option, text }));
         };
         if aliases.push(alias).is_err() {
             return Err(CommandError::Memory);

@@ -1,7 +1,7 @@
 //! Why a command ends early: the line and the exit status of each error.
 
 use asm::AsmError;
-use command_line::{OptionFault, RelayedError, ValueError};
+use command_line::{OptionError, OptionFault, RelayedError};
 use monitoring::RecordError;
 use peer_filter::{FilterError, NetworkError};
 use report::{MapError, ReportError};
@@ -30,7 +30,7 @@ const MEMORY: u8 = 4;
 pub(crate) enum CommandError<'a> {
     /// The text of an option is no value of it.
     #[error("{0}")]
-    Value(ValueError<'a>),
+    Value(OptionError<'a>),
     /// The text of an option is no network.
     #[error("error: invalid value '{text}' for '{option}': {error}")]
     Network {

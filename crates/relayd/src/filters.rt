@@ -1,8 +1,8 @@
 //! The peers that a server sends nothing to, by its options.
 
 use crate::error::CommandError;
-use command_line::{Options, ServerOptions, ValueError};
-use peer_filter::{Action, FilterError, MAX_RULES, Network, PeerFilter, Rule, ServerAddresses};
+use command_line::{OptionError, Options, ServerOptions};
+use peer_filter::{FilterError, MAX_RULES, Network, PeerFilter, Rule, RuleAction, ServerAddresses};
 use sockets::Addresses;
 use std::alloc::Global;
 
@@ -11,7 +11,7 @@ fn add_rules<'a>(
     rules: &mut Vec<Rule>,
     option: &'static str,
     texts: Option<&[&'a str]>,
-    action: Action,
+    action: RuleAction,
 ) -> Result<(), CommandError<'a>> {
     for text in texts.unwrap_or(&[]) {
         let network = match Network::parse(text) {
@@ -43,8 +43,18 @@ pub(crate) struct PeerOptions {
 /// Returns the rules of `--deny` and of `--allow`.
 fn rules_of<'a>(alloc: Global, server: &ServerOptions<'a>) -> Result<Vec<Rule>, CommandError<'a>> {
     let mut rules = Vec::new(alloc);
-    add_rules(&mut rules, "--deny <NETWORK>", server.deny, Action::Deny)?;
-    add_rules(&mut rules, "--allow <NETWORK>", server.allow, Action::Allow)?;
+    add_rules(
+        &mut rules,
+        "--deny <NETWORK>",
+        server.deny,
+        RuleAction::Deny,
+    )?;
+    add_rules(
+        &mut rules,
+        "--allow <NETWORK>",
+        server.allow,
+        RuleAction::Allow,
+    )?;
     if rules.len() > MAX_RULES {
         return Err(CommandError::Filter(FilterError::Rules));
     }
@@ -74,7 +84,7 @@ fn relayed_ports<'a>(
         ));
     };
     let option = "--relayed-ports <P-P>";
-    ports_in(text).ok_or(CommandError::Value(ValueError { option, text }))
+    ports_in(text).ok_or(CommandError::Value(OptionError { option, text }))
 }
 
 /// Returns what the options say of the peers that a server sends to.

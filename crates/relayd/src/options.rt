@@ -2,7 +2,7 @@
 
 use crate::confinements::confinement_of;
 use crate::error::CommandError;
-use command_line::{Options, ValueError};
+use command_line::{OptionError, Options};
 use credentials::User;
 use machine::Side;
 use programs::{CLIENT, PEER};
@@ -28,7 +28,7 @@ pub(crate) fn unread<'a>(error: &io::Error, path: &'a str) -> CommandError<'a> {
 fn users_fault<'a>(error: UsersError, texts: &[&'a str]) -> CommandError<'a> {
     let option = "--user <NAME:PASSWORD>";
     match (error, texts.iter().find(|text| !text.contains(':'))) {
-        (UsersError::Line(..), Some(text)) => CommandError::Value(ValueError { option, text }),
+        (UsersError::Line(..), Some(text)) => CommandError::Value(OptionError { option, text }),
         _ => CommandError::Memory,
     }
 }

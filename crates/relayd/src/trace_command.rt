@@ -9,7 +9,7 @@ use crate::read_whole;
 use crate::reports::{map_of, print_annotated, read_lines, report_file};
 use attributes::Family;
 use basics::streams::Output;
-use command_line::{TraceOptions, ValueError};
+use command_line::{OptionError, TraceOptions};
 use helpers::Lookup;
 use insn::{DecodeError, decode};
 use machine::{Addr, Context, Frame, Side};
@@ -55,7 +55,7 @@ fn side_of<'a>(text: Option<&'a str>) -> Result<Side, CommandError<'a>> {
     match text {
         None | Some("client") => Ok(Side::Client),
         Some("peer") => Ok(Side::Peer),
-        Some(text) => Err(CommandError::Value(ValueError { option, text })),
+        Some(text) => Err(CommandError::Value(OptionError { option, text })),
     }
 }
 
@@ -70,7 +70,7 @@ fn source_of<'a>(text: Option<&'a str>) -> Result<Addr, CommandError<'a>> {
     };
     match text.parse() {
         Ok(address) => Ok(record_address(address)),
-        Err(_) => Err(CommandError::Value(ValueError { option, text })),
+        Err(_) => Err(CommandError::Value(OptionError { option, text })),
     }
 }
 
@@ -83,7 +83,7 @@ fn tx_of<'a>(text: Option<&'a str>) -> Result<[u8; 12], CommandError<'a>> {
     };
     match hex::decode_to_slice(text.as_bytes(), &mut tx) {
         Ok(()) => Ok(tx),
-        Err(_) => Err(CommandError::Value(ValueError { option, text })),
+        Err(_) => Err(CommandError::Value(OptionError { option, text })),
     }
 }
 
@@ -92,7 +92,7 @@ fn permission_of<'a>(text: &'a str) -> Result<Addr, CommandError<'a>> {
     let option = "--permit <A>";
     match text.parse() {
         Ok(ip) => Ok(record_address(SocketAddr::new(ip, 0))),
-        Err(_) => Err(CommandError::Value(ValueError { option, text })),
+        Err(_) => Err(CommandError::Value(OptionError { option, text })),
     }
 }
 
@@ -113,7 +113,7 @@ fn number_of(text: &str) -> Option<u16>
 fn channel_of<'a>(text: &'a str) -> Result<(u16, Addr), CommandError<'a>>
     ensures { IfOk result (λ channel. IsChannelNumber channel.0) }
 {
-    let wrong = CommandError::Value(ValueError {
+    let wrong = CommandError::Value(OptionError {
         option: CHANNEL,
         text,
     });

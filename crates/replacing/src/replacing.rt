@@ -3,7 +3,7 @@
 use crate::files::{UnusableFile, read_regular};
 use crate::watched::Watched;
 use insn::MAX_SLOTS;
-use loader::{LoadError, LoadProgress, Loaded, Loading, Remains};
+use loader::{LoadError, LoadProgress, LoadRemains, Loaded, Loading};
 use relay::Relay;
 use setup::{ProgramError, RefusedProgram};
 use shadow::Shadows;
@@ -49,7 +49,7 @@ struct WatchedProgram<'a> {
     unusable: Option<UnusableFile>,
     successor: Successor,
     /// What the last verification has kept, which is freed gradually.
-    remains: Option<Remains>,
+    remains: Option<LoadRemains>,
 }
 
 /// What two programs are replaced in.

@@ -2,7 +2,7 @@
 
 use anyhow::{Context, Result, bail};
 use peer_filter::{
-    Action, FilterError, Loopback, Network, NetworkError, PeerFilter, Rule, ServerAddresses,
+    FilterError, Loopback, Network, NetworkError, PeerFilter, Rule, RuleAction, ServerAddresses,
     ServerEndpoint,
 };
 use rows::row::{Row, address, count, text};
@@ -33,8 +33,11 @@ fn error_text(alloc: Global, name: &str) -> Result<String> {
 /// Parses a rule: a network, with `-` before it to deny it and `+` to allow it.
 fn rule(word: &str) -> Result<Rule> {
     let (action, network) = match word.strip_prefix('-') {
-        Some(network) => (Action::Deny, network),
-        None => (Action::Allow, word.strip_prefix('+').context("no rule")?),
+        Some(network) => (RuleAction::Deny, network),
+        None => (
+            RuleAction::Allow,
+            word.strip_prefix('+').context("no rule")?,
+        ),
     };
     Ok(Rule {
         network: Network::parse(network)?,

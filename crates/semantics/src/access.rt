@@ -42,7 +42,7 @@ pub fn is_within(base: i64, displacement: i16, n: usize, low: i64, high: i64) ->
 
 /// The places `low..high`.
 #[derive(Clone, Copy, Debug, PartialEq, Eq)]
-struct Places {
+struct PlaceRange {
     /// The first of them.
     low: i64,
     /// The place after the last of them.
@@ -51,7 +51,7 @@ struct Places {
 
 /// Returns the index of the `n` items from the place `base + displacement` on, in a list that begins at the place
 /// `first`, or `None` where they don't lie at the given places.
-fn index_of(base: i64, displacement: i16, n: usize, first: i64, places: Places) -> Option<usize>
+fn index_of(base: i64, displacement: i16, n: usize, first: i64, places: PlaceRange) -> Option<usize>
     requires small { n ≤ STACK_BYTES }
     requires first { first ≤ℤ places.low }
     requires low { negsuc 65535 ≤ℤ first }
@@ -59,7 +59,7 @@ fn index_of(base: i64, displacement: i16, n: usize, first: i64, places: Places) 
     requires high { places.high ≤ℤ pos 131072 }
     ensures { result ≡ index_within (base +ℤ displacement) n first places.low places.high }
 {
-    let Places { low, high } = places;
+    let PlaceRange { low, high } = places;
     let place = base.checked_add(i64::from(displacement))?;
     if low <= place && place <= high - n as i64 {
         Some((place - first) as usize)
@@ -74,7 +74,7 @@ pub fn index_in_stack(base: i64, displacement: i16, n: usize) -> Option<usize>
     requires { n ≤ STACK_BYTES }
     ensures { result ≡ index_within (base +ℤ displacement) n stack_first stack_first (pos 0) }
 {
-    let places = Places {
+    let places = PlaceRange {
         low: STACK_FIRST,
         high: 0,
     };
@@ -98,7 +98,7 @@ fn in_bytes(base: i64, displacement: i16, n: usize, low: i64, high: i64) -> Resu
     requires high { high ≤ℤ pos 131072 }
     ensures { result ≡ in_bytes (base +ℤ displacement) n low high }
 {
-    let places = Places { low, high };
+    let places = PlaceRange { low, high };
     let index = index_of(base, displacement, n, HEADROOM_FIRST, places).ok_or(
         Reason::DatagramBounds,
     )?;

@@ -9,7 +9,7 @@ use Rattle.semantics.specs.laws.Slot.{fetch_past}
 use Rattle.absstate.specs.declared.abstract_state.AbsState.{AbsState}
 use Rattle.verifier.specs.Targets.{fetched_target, target_at, IsTarget}
 use Rattle.verifier.specs.Keeping.{states_of, states_with, keeps_at, is_slot, KeepsAtTargets, KeepsNothing, MarksTarget, Keeps}
-use Rattle.verifier.specs.declared.kept.Kept.{Kept}
+use Rattle.verifier.specs.declared.kept.KeptStates.{KeptStates}
 use Rattle.verifier.specs.declared.walk.Pending.{Pending}
 
 -- a slot more, at which nothing is
@@ -34,7 +34,7 @@ is_itself marked n e = subst (λ (g : Option ℕ). is_slot g n ≡ true) (sym e)
   itself : (n : ℕ) → (n == n) ≡ true
   itself n = search rules
 
-module _ {D : Type 0} (old : Kept D) (long : List (Option (List (AbsState D)))) (at : ℕ) (inside : at < length long) (same : (n : ℕ) → slice_index_or long n None ≡ slice_index_or old n None) where
+module _ {D : Type 0} (old : KeptStates D) (long : List (Option (List (AbsState D)))) (at : ℕ) (inside : at < length long) (same : (n : ℕ) → slice_index_or long n None ≡ slice_index_or old n None) where
   pub marks_one : (marked : Option ℕ) (states : List (AbsState D)) → marked ≡ Some at → MarksTarget {D = D} marked old (slice_set long at (Some states))
   marks_one marked states is slot = ⊎_elim
       (λ here.
@@ -56,7 +56,7 @@ abbrev pub IsTargetBelow : List Insn → ℕ → ℕ → Type 0
 IsTargetBelow code end marked = (g : IsTarget code marked) × (g.0 < end)
 
 -- states are kept at the targets of the jumps below a slot, and nowhere else
-pub record KeepsBelow {D : Type 0} (code : List Insn) (end : ℕ) (kept : Kept D) : Type 0 where
+pub record KeepsBelow {D : Type 0} (code : List Insn) (end : ℕ) (kept : KeptStates D) : Type 0 where
   pub only : (slot : ℕ) → keeps_at kept slot ≡ true → IsTargetBelow code end slot
   pub all : (slot : ℕ) → IsTargetBelow code end slot → keeps_at kept slot ≡ true
 
@@ -68,13 +68,13 @@ is_that : (marked : Option ℕ) (n : ℕ) → is_slot marked n ≡ true → mark
 is_that None n e = absurd cc
 is_that (Some g) n e = ap Some (sym (eqb-true n g e))
 
-pub none_below : {D : Type 0} (code : List Insn) (kept : Kept D) → kept ≡ [] → KeepsBelow code 0 kept
+pub none_below : {D : Type 0} (code : List Insn) (kept : KeptStates D) → kept ≡ [] → KeepsBelow code 0 kept
 none_below code kept none = record {
   only = λ slot e. absurd (let no : keeps_at kept slot ≡ false = ap (λ (rows : List _). is_some (slice_index_or rows slot None)) none in cc);
   all = λ slot marked. absurd (omega (arith, marked.1));
 }
 
-pub next_below : {D : Type 0} (code : List Insn) (at : ℕ) (old new : Kept D) → KeepsBelow code at old → MarksTarget (target_at code at) old new → KeepsBelow code (at + 1) new
+pub next_below : {D : Type 0} (code : List Insn) (at : ℕ) (old new : KeptStates D) → KeepsBelow code at old → MarksTarget (target_at code at) old new → KeepsBelow code (at + 1) new
 next_below code at old new below marks = record { only = only_next; all = all_next } where
   only_next : (slot : ℕ) → keeps_at new slot ≡ true → IsTargetBelow code (at + 1) slot
   only_next slot e = elim (either_is (keeps_at old slot) (is_slot (target_at code at) slot) (sym (marks slot) ∙ e)) [
@@ -94,7 +94,7 @@ past_has_none : (code : List Insn) (slot marked : ℕ) → slot_count code ≤ s
 past_has_none code slot marked past e = let none : target_at code slot ≡ None = ap (fetched_target code slot) (fetch_past code slot past) in absurd cc
 
 -- at the end these are all targets
-pub targets_below : {D : Type 0} (code : List Insn) (end : ℕ) (kept : Kept D) → slot_count code ≤ end → KeepsBelow code end kept → KeepsAtTargets code kept
+pub targets_below : {D : Type 0} (code : List Insn) (end : ℕ) (kept : KeptStates D) → slot_count code ≤ end → KeepsBelow code end kept → KeepsAtTargets code kept
 targets_below code end kept le below = record {
   only = λ slot e. (below.only slot e).0;
   all = λ slot marked. elim (cases_lt marked.0 end) [
@@ -104,7 +104,7 @@ targets_below code end kept le below = record {
 }
 
 -- a kept state changes no slot at which states are kept
-pub targets_after : {D : Type 0} (code : List Insn) (p : Pending D) (old new : Kept D) → KeepsAtTargets code old → Keeps p old new → KeepsAtTargets code new
+pub targets_after : {D : Type 0} (code : List Insn) (p : Pending D) (old new : KeptStates D) → KeepsAtTargets code old → Keeps p old new → KeepsAtTargets code new
 targets_after code p old new targets keeps = record {
   only = λ slot e. targets.only slot (sym (keeps.slots slot) ∙ e);
   all = λ slot marked. keeps.slots slot ∙ targets.all slot marked;
@@ -159,7 +159,7 @@ module _ {D : Type 0} (state : AbsState D) where
         ∙ ap (λ (b : Bool). states_with b state (states_of (slice_index_or rows n None))) (sym (elsewhere (is_some (slice_index_or rows at None))) ∙ ap (λ (b : Bool). is_some (slice_index_or rows at None) && b) (sym there))
 
 -- what is kept where the states of a slot, to which a state is appended, take their place
-pub keeps_here : {D : Type 0} (p : Pending D) (kept : Kept D) (old new : Option (List (AbsState D))) → p.slot < length kept → old ≡ slice_index_or kept p.slot None → is_some new ≡ is_some old
+pub keeps_here : {D : Type 0} (p : Pending D) (kept : KeptStates D) (old new : Option (List (AbsState D))) → p.slot < length kept → old ≡ slice_index_or kept p.slot None → is_some new ≡ is_some old
     → states_of new ≡ states_with (is_some old) p.state (states_of old) → Keeps p kept (slice_set kept p.slot new)
 keeps_here p kept old new lt is slots states = record {
   slots = λ slot. slots_with p.state kept p.slot slot new lt (slots ∙ ap (λ (o : Option (List (AbsState _))). is_some o) is);

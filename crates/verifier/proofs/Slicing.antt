@@ -23,9 +23,9 @@ use Rattle.verifier.specs.Slices.{Walking, IsWalk, waits_of, searches_left, weig
 use Rattle.verifier.specs.Units.{DoesUnit, RefusesUnit}
 use Rattle.verifier.specs.Walk.{first_pending, waiting_states, state_to_follow, BeginsInside, IsLeft, Advances, IsStepRefusal, IsCovered, Skips}
 use Rattle.verifier.specs.Walks.{Walks, Pauses, ComesTo, IsRefusedEnd, IsEndOf, EndsWalk}
-use Rattle.verifier.specs.declared.kept.Kept.{Kept}
-use Rattle.verifier.specs.declared.kept.Search.{Search}
-use Rattle.verifier.specs.declared.kept.Search.TheVariants.{Open}
+use Rattle.verifier.specs.declared.kept.KeptStates.{KeptStates}
+use Rattle.verifier.specs.declared.kept.SearchProgress.{SearchProgress}
+use Rattle.verifier.specs.declared.kept.SearchProgress.TheVariants.{Open}
 use Rattle.verifier.specs.declared.refusal.Refusal.{Refusal}
 use Rattle.verifier.specs.declared.refusal.Refusal.TheVariants as refusal
 use Rattle.verifier.specs.declared.slices.Frontier.{Frontier}
@@ -49,13 +49,13 @@ no_fault code reason slot laid_out (inr fault) = absurd (fault.no_exit laid_out.
 
 module _ {D : Type 0} (ops : Operations D) (Member : D → ℕ → Type 0) (code : List Insn) where
   -- where the state to follow next is not covered, all that are to be skipped are
-  pub settled : (made : ℕ) (rest : List (Pending D)) (p : Pending D) (kept : Kept D) → Pauses ops Member code made (rest ++ p ∷ []) kept → is_covered ops (kept_at kept) p ≡ false → Walks ops Member code made (rest ++ p ∷ []) kept
+  pub settled : (made : ℕ) (rest : List (Pending D)) (p : Pending D) (kept : KeptStates D) → Pauses ops Member code made (rest ++ p ∷ []) kept → is_covered ops (kept_at kept) p ≡ false → Walks ops Member code made (rest ++ p ∷ []) kept
   settled zero rest p kept pauses uncovered = pauses
   settled (suc n) rest p kept (here, old, before, next, new, walks, keeps, advances, skips) uncovered =
       (here, old, before, Some p, rest, walks, record { next = next; pending = new; keeps = keeps; advances = advances; settles = record { skips = skips; uncovered = uncovered; ended = tt } }, refl)
 
   -- so they are where none waits
-  pub finished : (made : ℕ) (waits : List (Pending D)) (kept : Kept D) → Pauses ops Member code made waits kept → waits ≡ [] → Walks ops Member code made [] kept
+  pub finished : (made : ℕ) (waits : List (Pending D)) (kept : KeptStates D) → Pauses ops Member code made waits kept → waits ≡ [] → Walks ops Member code made [] kept
   finished zero waits kept pauses none = let bad : ◌≡◌ {A = List (Pending D)} [] (first_pending ∷ []) = sym none ∙ pauses.0 in absurd cc
   finished (suc n) waits kept (here, old, before, next, new, walks, keeps, advances, skips) none = (
     here,
@@ -75,7 +75,7 @@ module _ {D : Type 0} (ops : Operations D) (Member : D → ℕ → Type 0) (code
   )
 
   -- the state to follow next is skipped
-  pub skipped : (made : ℕ) (rest : List (Pending D)) (p : Pending D) (kept : Kept D) → Pauses ops Member code made (rest ++ p ∷ []) kept → IsCovered ops Member (kept_at kept) p → Pauses ops Member code made rest kept
+  pub skipped : (made : ℕ) (rest : List (Pending D)) (p : Pending D) (kept : KeptStates D) → Pauses ops Member code made (rest ++ p ∷ []) kept → IsCovered ops Member (kept_at kept) p → Pauses ops Member code made rest kept
   skipped zero rest p kept pauses covered =
       let nothing : list_any (λ (k : AbsState D). covers ops k p.state) [] ≡ true = subst (λ (states : List (AbsState D)). list_any (λ (k : AbsState D). covers ops k p.state) states ≡ true) (pauses.2 p.slot) covered.0 in
       absurd cc
@@ -92,7 +92,7 @@ module _ {D : Type 0} (ops : Operations D) (Member : D → ℕ → Type 0) (code
   )
 
   -- its step is made
-  pub stepped : (made : ℕ) (here : Pending D) (old : List (Pending D)) (before : Kept D) (next : Option (Pending D)) (new : List (Pending D)) (kept : Kept D) → Walks ops Member code made (old ++ here ∷ []) before → Keeps here before kept → Advances ops code here old next new → Pauses ops Member code (made + 1) (waiting_states next new) kept
+  pub stepped : (made : ℕ) (here : Pending D) (old : List (Pending D)) (before : KeptStates D) (next : Option (Pending D)) (new : List (Pending D)) (kept : KeptStates D) → Walks ops Member code made (old ++ here ∷ []) before → Keeps here before kept → Advances ops code here old next new → Pauses ops Member code (made + 1) (waiting_states next new) kept
   stepped made here old before next new kept walks keeps advances =
       let same : suc made ≡ made + 1 = omega arith in
       subst (λ (n : ℕ). Pauses ops Member code n (waiting_states next new) kept) same
@@ -117,7 +117,7 @@ one_more_waits ops code here old next new adv =
 
 module _ {D : Type 0} (ops : Operations D) (Member : D → ℕ → Type 0) (sound : AreSound ops Member) (code : List Insn) (laid_out : IsLaidOut code) where
   -- what is kept over the steps of a walk follows from those steps
-  walking_of : (made : ℕ) (waits : List (Pending D)) (kept : Kept D) → Walks ops Member code made waits kept → IsWalking ops Member sound code made waits (kept_at kept)
+  walking_of : (made : ℕ) (waits : List (Pending D)) (kept : KeptStates D) → Walks ops Member code made waits kept → IsWalking ops Member sound code made waits (kept_at kept)
   walking_of zero waits kept walks = subst (λ (xs : List (Pending D)). IsWalking ops Member sound code 0 xs (kept_at kept)) (sym walks.0) (begins ops Member sound code [] (kept_at kept) laid_out refl walks.2)
   walking_of (suc n) waits kept (here, old, before, picked, new, walks, step, is) =
       let next : n + 1 ≡ suc n = omega arith in
@@ -126,13 +126,13 @@ module _ {D : Type 0} (ops : Operations D) (Member : D → ℕ → Type 0) (soun
       (made_step ops Member sound code n here old before picked new kept laid_out (walking_of n (old ++ here ∷ []) before walks) step))
 
   -- an instruction begins at the slot of the state to follow next
-  pub begins_inside : (made : ℕ) (old : List (Pending D)) (here : Pending D) (kept : Kept D) → Walks ops Member code made (old ++ here ∷ []) kept → BeginsInside code here
+  pub begins_inside : (made : ℕ) (old : List (Pending D)) (here : Pending D) (kept : KeptStates D) → Walks ops Member code made (old ++ here ∷ []) kept → BeginsInside code here
   begins_inside made old here kept walks = last_of (BeginsInside code) old here (walking_of made (old ++ here ∷ []) kept walks).inside
 
-  first_good : (made : ℕ) (kept : Kept D) → Walks ops Member code made [] kept → AllRunsExit Member code first_pending
+  first_good : (made : ℕ) (kept : KeptStates D) → Walks ops Member code made [] kept → AllRunsExit Member code first_pending
   first_good made kept walks = (walking_of made [] kept walks).good (all_none (AllRunsExit Member code) [] refl)
 
-  pub ended_safe : (made : ℕ) (kept : Kept D) → Walks ops Member code made [] kept → IsSafe code
+  pub ended_safe : (made : ℕ) (kept : KeptStates D) → Walks ops Member code made [] kept → IsSafe code
   ended_safe made kept walks = safe ops Member sound code (first_good made kept walks)
 
   comes_inside : (made slot : ℕ) → ComesTo ops Member code made slot → StartsAt code slot
@@ -166,7 +166,7 @@ module _ {D : Type 0} (ops : Operations D) (Member : D → ℕ → Type 0) (soun
   }
 
 -- at most one state more is kept at a slot
-one_kept : {D : Type 0} (here : Pending D) (old new : Kept D) (slot : ℕ) → Keeps here old new → length (kept_at new slot) ≤ length (kept_at old slot) + 1
+one_kept : {D : Type 0} (here : Pending D) (old new : KeptStates D) (slot : ℕ) → Keeps here old new → length (kept_at new slot) ≤ length (kept_at old slot) + 1
 one_kept here old new slot keeps = omega (arith, ap (λ (xs : List (AbsState _)). length xs) (keeps.states slot), with_one (keeps_at old here.slot && (slot == here.slot)) here.state (kept_at old slot)) where
   with_one : {D : Type 0} (keeps : Bool) (state : AbsState D) (states : List (AbsState D)) → length (states_with keeps state states) ≤ length states + 1
   with_one true state states = omega (arith, length-append states (state ∷ []))
@@ -277,12 +277,12 @@ pub passes_none : {D : Type 0} (ops : Operations D) (states : List (AbsState D))
 passes_none ops states passed a none = subst (λ (n : ℕ). HasPassed ops states n a) (sym none) (record { inside = omega arith; none = refl })
 
 -- no more states are kept at a slot than steps are made
-few_kept : {D : Type 0} (ops : Operations D) (Member : D → ℕ → Type 0) (code : List Insn) (made : ℕ) (waits : List (Pending D)) (kept : Kept D) → Walks ops Member code made waits kept → (slot : ℕ) → length (kept_at kept slot) ≤ made
+few_kept : {D : Type 0} (ops : Operations D) (Member : D → ℕ → Type 0) (code : List Insn) (made : ℕ) (waits : List (Pending D)) (kept : KeptStates D) → Walks ops Member code made waits kept → (slot : ℕ) → length (kept_at kept slot) ≤ made
 few_kept ops Member code zero waits kept walks slot = omega (arith, ap (λ (xs : List (AbsState _)). length xs) (walks.2 slot))
 few_kept ops Member code (suc n) waits kept (here, old, before, picked, new, walks, step, is) slot =
     omega (arith, few_kept ops Member code n (old ++ here ∷ []) before walks slot, one_kept here before kept slot step.keeps)
 
-pub few_paused : {D : Type 0} (ops : Operations D) (Member : D → ℕ → Type 0) (code : List Insn) (made : ℕ) (waits : List (Pending D)) (kept : Kept D) → Pauses ops Member code made waits kept → (slot : ℕ) → length (kept_at kept slot) ≤ made
+pub few_paused : {D : Type 0} (ops : Operations D) (Member : D → ℕ → Type 0) (code : List Insn) (made : ℕ) (waits : List (Pending D)) (kept : KeptStates D) → Pauses ops Member code made waits kept → (slot : ℕ) → length (kept_at kept slot) ≤ made
 few_paused ops Member code zero waits kept pauses slot = few_kept ops Member code 0 waits kept pauses slot
 few_paused ops Member code (suc n) waits kept (here, old, before, next, new, walks, keeps, advances, skips) slot =
     omega (arith, few_kept ops Member code n (old ++ here ∷ []) before walks slot, one_kept here before kept slot keeps)
@@ -324,7 +324,7 @@ module _ {D : Type 0} (ops : Operations D) (Member : D → ℕ → Type 0) (code
       → length (kept_at to.kept to.here.value.slot) ≤ budget → weight + KEPT_STATE * passed_at from ≤ KEPT_STATE * passed_at to → HasWorked ops Member code budget from to (UNIT + weight) old old
   unit_opens from to old weight pauses within waits kept made one passed more few each = record {
     pauses = subst (λ (n : ℕ). Pauses ops Member code n (waits_of to) to.kept) (sym made)
-        (subst (λ (xs : List (Pending D)). Pauses ops Member code from.made xs to.kept) (sym waits) (subst (λ (k : Kept D). Pauses ops Member code from.made (waits_of from) k) (sym kept) pauses));
+        (subst (λ (xs : List (Pending D)). Pauses ops Member code from.made xs to.kept) (sym waits) (subst (λ (k : KeptStates D). Pauses ops Member code from.made (waits_of from) k) (sym kept) pauses));
     has_passed = passed;
     within = omega (arith, made, within);
     count = omega (arith, made);
@@ -389,7 +389,7 @@ module _ {D : Type 0} (ops : Operations D) (Member : D → ℕ → Type 0) (code
     resumed =
         subst (λ (n : ℕ). Pauses ops Member code n (waits_of at) at.kept) (sym is.made)
         (subst (λ (xs : List (Pending D)). Pauses ops Member code first.made xs at.kept) (sym is.waits)
-        (subst (λ (k : Kept D). Pauses ops Member code first.made (waits_of first) k) (sym is.kept) is.pauses))
+        (subst (λ (k : KeptStates D). Pauses ops Member code first.made (waits_of first) k) (sym is.kept) is.pauses))
 
     few_here : length (kept_at at.kept at.here.value.slot) ≤ budget
     few_here = omega (arith, few_paused ops Member code at.made (waits_of at) at.kept resumed at.here.value.slot, is.made, is.within)
@@ -398,7 +398,7 @@ module _ {D : Type 0} (ops : Operations D) (Member : D → ℕ → Type 0) (code
     here_passed passed = ap (λ (path : Path). passed_of path passed) is.on
 
     -- its search comes to an end
-    pub settles_unit : (to : Frontier D) (old new weight : ℕ) (found : Search) → HasSettled ops Member code budget at to old new → to.ahead ≡ at.ahead → Weighs found (length (kept_at at.kept at.here.value.slot)) at.passed weight
+    pub settles_unit : (to : Frontier D) (old new weight : ℕ) (found : SearchProgress) → HasSettled ops Member code budget at to old new → to.ahead ≡ at.ahead → Weighs found (length (kept_at at.kept at.here.value.slot)) at.passed weight
         → passed_after found (length (kept_at at.kept at.here.value.slot)) ≡ length (kept_at at.kept at.here.value.slot) → HasDoneUnit ops Member code budget first to old new (UNIT + weight)
     settles_unit to old new weight found settled_to ahead weighs all = record {
       worked = worked_from ops Member code budget first at to (UNIT + weight) old new is.made is.waits is.passed

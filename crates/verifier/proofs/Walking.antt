@@ -28,7 +28,7 @@ use Rattle.absstate.specs.declared.abstract_state.AbsState.{AbsState}
 use Rattle.absstate.specs.declared.abstract_step.Next.{Next}
 use Rattle.verifier.specs.Keeping.{kept_at, keeps_at, states_with, kept_with}
 use Rattle.verifier.specs.Layout.{IsLaidOut, StartsAt}
-use Rattle.verifier.specs.declared.kept.Kept.{Kept}
+use Rattle.verifier.specs.declared.kept.KeptStates.{KeptStates}
 use Rattle.verifier.specs.PendingStates.{AllRunsExit, IsReached, count_of_prefixes, counts_from}
 use Rattle.verifier.specs.Refusing.{IsReal, MayRefuseOver}
 use Rattle.verifier.specs.Walk.{first_pending, BeginsInside, LeadsTo, IsNext, IsLeft, GoesOn, Advances, IsStepRefusal, IsCovered, Skips, IsWalkStep, waiting_states}
@@ -273,7 +273,7 @@ module _ {D : Type 0} (ops : Operations D) (Member : D → ℕ → Type 0) (soun
   pub settles : (made : ℕ) (states : ℕ → List (AbsState D)) (all rest : List (Pending D)) → Skips ops Member states all rest → IsWalking made all states → IsWalking made rest states
   settles made states all rest skips walking = skips_all made states rest skips.skipped skips.covered (subst (λ (xs : List (Pending D)). IsWalking made xs states) skips.parts walking)
 
-  pub made_step : (made : ℕ) (here : Pending D) (old : List (Pending D)) (kept : Kept D) (picked : Option (Pending D)) (new : List (Pending D)) (more : Kept D) → IsLaidOut code → IsWalking made (old ++ here ∷ []) (kept_at kept) → IsWalkStep ops Member code here old kept picked new more → IsWalking (made + 1) (waiting_states picked new) (kept_at more)
+  pub made_step : (made : ℕ) (here : Pending D) (old : List (Pending D)) (kept : KeptStates D) (picked : Option (Pending D)) (new : List (Pending D)) (more : KeptStates D) → IsLaidOut code → IsWalking made (old ++ here ∷ []) (kept_at kept) → IsWalkStep ops Member code here old kept picked new more → IsWalking (made + 1) (waiting_states picked new) (kept_at more)
   made_step made here old kept picked new more laid_out walking step =
       settles (made + 1) (kept_at more) (waiting_states step.next step.pending) (waiting_states picked new) step.settles.skips
       (stepped made here old step.pending step.next (kept_at kept) (kept_at more) (keeps_at kept here.slot) laid_out walking step.advances step.keeps.states)

@@ -10,7 +10,7 @@ use Rattle.verifier.specs.Refusing.{CountsSteps}
 use Rattle.verifier.specs.Searches.{HasPassed}
 use Rattle.verifier.specs.Walk.{state_to_follow, waiting_states}
 use Rattle.verifier.specs.Walks.{Pauses, IsEndOf}
-use Rattle.verifier.specs.declared.kept.Kept.{Kept}
+use Rattle.verifier.specs.declared.kept.KeptStates.{KeptStates}
 use Rattle.verifier.specs.declared.refusal.Refusal.{Refusal}
 use Rattle.verifier.specs.declared.slices.Frontier.{Frontier}
 use Rattle.verifier.specs.declared.walk.Path.{Path}
@@ -25,7 +25,7 @@ pub record Walking (D : Type 0) : Type 0 where
   pub budget : ℕ
   pub made : ℕ
   pub waits : List (Pending D)
-  pub kept : Kept D
+  pub kept : KeptStates D
   pub passed : ℕ
   pub ahead : ℕ
 

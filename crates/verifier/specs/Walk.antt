@@ -16,7 +16,7 @@ use Rattle.absstate.specs.declared.abstract_state.AbsState.{AbsState}
 use Rattle.absstate.specs.declared.abstract_step.Next.{Next}
 use Rattle.verifier.specs.Keeping.{kept_at, is_covered, HasCover, Keeps}
 use Rattle.verifier.specs.Layout.{StartsAt}
-use Rattle.verifier.specs.declared.kept.Kept.{Kept}
+use Rattle.verifier.specs.declared.kept.KeptStates.{KeptStates}
 use Rattle.verifier.specs.declared.refusal.Refusal.{Refusal}
 use Rattle.verifier.specs.declared.refusal.Refusal.TheVariants as refusal
 use Rattle.verifier.specs.declared.walk.Pending.{Pending}
@@ -113,7 +113,7 @@ pub record Settles {D : Type 0} (ops : Operations D) (Member : D → ℕ → Typ
   pub ended : IfNone picked (new ≡ [])
 
 -- one step of the walk: the state at hand is kept, its step is made, and the walk goes on so
-pub record IsWalkStep {D : Type 0} (ops : Operations D) (Member : D → ℕ → Type 0) (code : List Insn) (here : Pending D) (old : List (Pending D)) (kept : Kept D) (picked : Option (Pending D)) (new : List (Pending D)) (more : Kept D) : Type 0 where
+pub record IsWalkStep {D : Type 0} (ops : Operations D) (Member : D → ℕ → Type 0) (code : List Insn) (here : Pending D) (old : List (Pending D)) (kept : KeptStates D) (picked : Option (Pending D)) (new : List (Pending D)) (more : KeptStates D) : Type 0 where
   pub next : Option (Pending D)
   pub pending : List (Pending D)
   pub keeps : Keeps here kept more

@@ -5,24 +5,24 @@ use Rattle.interval.specs.Domains.{Operations}
 use Rattle.verifier.specs.Keeping.{KeepsAtTargets, KeepsNothing, kept_at, Keeps}
 use Rattle.verifier.specs.Layout.{IsLayoutFault}
 use Rattle.verifier.specs.Walk.{first_pending, waiting_states, Advances, Skips, IsWalkStep, IsRefusedAt}
-use Rattle.verifier.specs.declared.kept.Kept.{Kept}
+use Rattle.verifier.specs.declared.kept.KeptStates.{KeptStates}
 use Rattle.verifier.specs.declared.refusal.Refusal.{Refusal}
 use Rattle.verifier.specs.declared.refusal.Refusal.TheVariants as refusal
 use Rattle.verifier.specs.declared.walk.Pending.{Pending}
 
 -- A number of steps of the walk leads from its start to the states that wait, the next one last, and those that are kept.
 -- At the start only the first state waits, and none is kept.
-abbrev pub Walks : {D : Type 0} → Operations D → (D → ℕ → Type 0) → List Insn → ℕ → List (Pending D) → Kept D → Type 0
+abbrev pub Walks : {D : Type 0} → Operations D → (D → ℕ → Type 0) → List Insn → ℕ → List (Pending D) → KeptStates D → Type 0
 Walks ops Member code zero waits kept = (waits ≡ first_pending ∷ []) × KeepsAtTargets code kept × KeepsNothing kept
 Walks {D = D} ops Member code (suc n) waits kept =
-    (here : Pending D) × (old : List (Pending D)) × (before : Kept D) × (picked : Option (Pending D)) × (new : List (Pending D))
+    (here : Pending D) × (old : List (Pending D)) × (before : KeptStates D) × (picked : Option (Pending D)) × (new : List (Pending D))
     × Walks ops Member code n (old ++ here ∷ []) before × IsWalkStep ops Member code here old before picked new kept × (waits ≡ waiting_states picked new)
 
 -- As `Walks`, where of the states that wait after the last step not all that are covered need be skipped yet.
-abbrev pub Pauses : {D : Type 0} → Operations D → (D → ℕ → Type 0) → List Insn → ℕ → List (Pending D) → Kept D → Type 0
+abbrev pub Pauses : {D : Type 0} → Operations D → (D → ℕ → Type 0) → List Insn → ℕ → List (Pending D) → KeptStates D → Type 0
 Pauses ops Member code zero waits kept = Walks ops Member code zero waits kept
 Pauses {D = D} ops Member code (suc n) waits kept =
-    (here : Pending D) × (old : List (Pending D)) × (before : Kept D) × (next : Option (Pending D)) × (new : List (Pending D))
+    (here : Pending D) × (old : List (Pending D)) × (before : KeptStates D) × (next : Option (Pending D)) × (new : List (Pending D))
     × Walks ops Member code n (old ++ here ∷ []) before × Keeps here before kept × Advances ops code here old next new
     × Skips ops Member (kept_at kept) (waiting_states next new) waits
 
@@ -30,7 +30,7 @@ Pauses {D = D} ops Member code (suc n) waits kept =
 pub record ComesTo {D : Type 0} (ops : Operations D) (Member : D → ℕ → Type 0) (code : List Insn) (made slot : ℕ) : Type 0 where
   pub here : Pending D
   pub pending : List (Pending D)
-  pub kept : Kept D
+  pub kept : KeptStates D
   pub walks : Walks ops Member code made (pending ++ here ∷ []) kept
   pub slot_is : slot ≡ here.slot
 
@@ -49,7 +49,7 @@ IsRefusedEnd ops Member code made (refusal.Memory slot) = ((made ≡ 0) × (slot
 
 -- where the code is accepted, no state waits after those steps
 abbrev pub IsEndOf : {D T : Type 0} → Operations D → (D → ℕ → Type 0) → List Insn → ℕ → Result T Refusal → Type 0
-IsEndOf {D = D} ops Member code made (Ok v) = (kept : Kept D) × Walks ops Member code made [] kept
+IsEndOf {D = D} ops Member code made (Ok v) = (kept : KeptStates D) × Walks ops Member code made [] kept
 IsEndOf ops Member code made (Err e) = IsRefusedEnd ops Member code made e
 
 -- the counter of the steps was raised by those of the walk that a result ends

@@ -62,14 +62,14 @@ impl<D: Domain> Model for States<D> {
 /// one does.
 /// See docs/DECISIONS.md, "Covered states are skipped".
 #[derive(Drop)]
-pub struct Kept<D: Domain> {
+pub struct KeptStates<D: Domain> {
     alloc: Global,
     by_slot: Vec<Option<States<D>>>,
     // the slot of the state that was kept last, which the next one is most like
     latest: usize,
 }
 
-impl<D: Domain> Model for Kept<D> {
+impl<D: Domain> Model for KeptStates<D> {
     ghost use Rattle.std.specs.Prelude.{List, Option};
     ghost use Rattle.absstate.specs.declared.abstract_state.AbsState.{AbsState};
 
@@ -139,7 +139,7 @@ impl<D: Domain> KeptState<D> {
 
 /// What a search for a kept state that covers another one has come to.
 #[derive(Clone, Copy)]
-pub(crate) enum Search {
+pub(crate) enum SearchProgress {
     /// One of the kept states covers it.
     Covered,
     /// None of them does.
@@ -155,7 +155,7 @@ fn search_among<D: Domain>(
     states: &mut Vec<KeptState<D>>,
     state: &AbsState<D>,
     passed: usize,
-) -> (Search, usize)
+) -> (SearchProgress, usize)
     requires signatures { signatures.now ≡ signatures_of D.ops states.old.items }
     requires passed { HasPassed D.ops states.old.items passed state.now }
     ensures same { states.new.items ≡ states.old.items }
@@ -174,15 +174,15 @@ fn search_among<D: Domain>(
         if at < end {
             weight += 1;
             if states[at].covers(state, &words, &mut weight) {
-                return (Search::Covered, weight);
+                return (SearchProgress::Covered, weight);
             }
             at += 1;
         }
     }
     if at < states.len() {
-        (Search::Open { passed: at }, weight)
+        (SearchProgress::Open { passed: at }, weight)
     } else {
-        (Search::Uncovered, weight)
+        (SearchProgress::Uncovered, weight)
     }
 }
 
@@ -201,14 +201,14 @@ impl<D: Domain> States<D> {
     }
 
     /// Searches the states for one that covers a state. None of the first `passed` does. Returns what it weighs, too.
-    fn search(&mut self, state: &AbsState<D>, passed: usize) -> (Search, usize)
+    fn search(&mut self, state: &AbsState<D>, passed: usize) -> (SearchProgress, usize)
         requires { HasPassed D.ops self.old passed state.now }
         ensures same { self.new ≡ self.old }
         ensures found { Finds D.ops D.Member self.old passed state.now result.0 }
         ensures weight { Weighs result.0 (length self.old) passed result.1 }
     {
         if self.states.is_empty() {
-            return (Search::Uncovered, 0);
+            return (SearchProgress::Uncovered, 0);
         }
         search_among(&self.signatures, &mut self.states, state, passed)
     }
@@ -252,7 +252,7 @@ fn search_slot<D: Domain>(
     states: &mut Option<States<D>>,
     state: &AbsState<D>,
     passed: usize,
-) -> (Search, usize)
+) -> (SearchProgress, usize)
     requires { HasPassed D.ops (states_of states.old) passed state.now }
     ensures same { states.new ≡ states.old }
     ensures found { Finds D.ops D.Member (states_of states.old) passed state.now result.0 }
@@ -260,7 +260,7 @@ fn search_slot<D: Domain>(
 {
     match states {
         Some(states) => states.search(state, passed),
-        None => (Search::Uncovered, 0),
+        None => (SearchProgress::Uncovered, 0),
     }
 }
 
@@ -312,18 +312,18 @@ fn lengthen<D: Domain>(by_slot: &mut Vec<Option<States<D>>>, slot: usize) -> Res
     Ok(())
 }
 
-impl<D: Domain> Kept<D> {
+impl<D: Domain> KeptStates<D> {
     /// Keeps no state, and marks the slots that jumps lead to.
     ///
     /// # Errors
     /// Where memory runs out.
     #[tactic(auto, using(crate::proofs::Keeping::none_below, crate::proofs::Keeping::next_below, crate::proofs::Keeping::targets_below))]
-    pub fn new(alloc: Global, program: &Program) -> Result<Kept<D>, AllocError>
+    pub fn new(alloc: Global, program: &Program) -> Result<KeptStates<D>, AllocError>
         requires { slot_count program.now ≤ MAX_SLOTS }
         ensures targets { IfOk result (KeepsAtTargets program.now) }
         ensures none { IfOk result KeepsNothing }
     {
-        let mut kept = Kept {
+        let mut kept = KeptStates {
             alloc,
             by_slot: Vec::new(alloc),
             latest: 0,
@@ -353,7 +353,7 @@ impl<D: Domain> Kept<D> {
 
     /// Searches the states that are kept at its slot for one that covers a state. None of the first `passed` does. Returns what
     /// it weighs, too.
-    pub fn search(&mut self, here: &Pending<D>, passed: usize) -> (Search, usize)
+    pub fn search(&mut self, here: &Pending<D>, passed: usize) -> (SearchProgress, usize)
         requires { HasPassed D.ops (kept_at self.old here.now.slot) passed here.now.state }
         ensures same { self.new ≡ self.old }
         ensures found { Finds D.ops D.Member (kept_at self.old here.now.slot) passed here.now.state result.0 }
@@ -362,7 +362,7 @@ impl<D: Domain> Kept<D> {
         if here.slot < self.by_slot.len() {
             search_slot(&mut self.by_slot[here.slot], &here.state, passed)
         } else {
-            (Search::Uncovered, 0)
+            (SearchProgress::Uncovered, 0)
         }
     }
 
@@ -424,7 +424,7 @@ impl<D: Domain> Remains<D> {
     ghost use Rattle.verifier.specs.Keeping.{units_to_free};
 
     /// Returns what is left of the states that a walk has kept.
-    pub(crate) fn new(kept: Kept<D>) -> Remains<D>
+    pub(crate) fn new(kept: KeptStates<D>) -> Remains<D>
         ensures { result ≡ units_to_free kept }
     {
         Remains {

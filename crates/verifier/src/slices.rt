@@ -14,7 +14,7 @@ ghost use Rattle.verifier.specs.Units.{DoesUnit, RefusesUnit, IsUnitBetween};
 ghost use Rattle.verifier.specs.declared.walk.Path.TheVariants.{Continues, Ended};
 ghost use Rattle.verifier.specs.declared.weights.TheConstants.{HEAVIEST};
 
-use crate::kept::{Kept, Remains, Search};
+use crate::kept::{KeptStates, Remains, SearchProgress};
 use crate::layout::check_layout;
 use crate::refusal::Refusal;
 use crate::walk::{Path, Pending, Verified, make_step};
@@ -36,7 +36,7 @@ pub struct Frontier<D: Domain> {
     path: Path,
     here: Box<Pending<D>>,
     pending: Vec<Pending<D>>,
-    kept: Kept<D>,
+    kept: KeptStates<D>,
     /// How many of the states that are kept at the slot of the state at hand are known not to cover it: the first ones.
     passed: usize,
     /// What was done beyond the slices so far, by weight.
@@ -134,9 +134,9 @@ fn work<D: Domain, L: Ledger>(
     }
     let (found, weight) = at.kept.search(&at.here, at.passed);
     match found {
-        Search::Covered => settle(program, at, budget, steps, true)?,
-        Search::Uncovered => settle(program, at, budget, steps, false)?,
-        Search::Open { passed } => at.passed = passed,
+        SearchProgress::Covered => settle(program, at, budget, steps, true)?,
+        SearchProgress::Uncovered => settle(program, at, budget, steps, false)?,
+        SearchProgress::Open { passed } => at.passed = passed,
     }
     Ok(Some(UNIT + weight))
 }
@@ -188,9 +188,9 @@ fn is_covered<D: Domain>(at: &mut Frontier<D>) -> bool
 {
     loop {
         match at.kept.search(&at.here, at.passed).0 {
-            Search::Covered => return true,
-            Search::Uncovered => return false,
-            Search::Open { passed } => at.passed = passed,
+            SearchProgress::Covered => return true,
+            SearchProgress::Uncovered => return false,
+            SearchProgress::Open { passed } => at.passed = passed,
         }
     }
 }
@@ -281,7 +281,7 @@ impl<D: Domain> Walk<D> {
         let Ok(translation) = Translation::new(alloc, code) else {
             return Err(Refusal::Memory { slot: 0 });
         };
-        let Ok(kept) = Kept::new(alloc, translation.program()) else {
+        let Ok(kept) = KeptStates::new(alloc, translation.program()) else {
             return Err(Refusal::Memory { slot: 0 });
         };
         // a path makes one step at each instruction at most, so the states that wait are never copied to a larger room

@@ -15,7 +15,7 @@ ghost use Rattle.verifier.specs.Walks.{EndsWalk};
 ghost use Rattle.interval.specs.Intervals.{LiesBetween, interval_ops};
 ghost use Rattle.semantics.specs.declared.fetching.Branch.TheVariants.{NotTaken, Taken};
 
-use crate::kept::Kept;
+use crate::kept::KeptStates;
 use crate::refusal::Refusal;
 use crate::slices::verify_in_slices;
 use absstate::{AbsState, Change, Transition};
@@ -201,7 +201,7 @@ fn advance<D: Domain>(
 /// The refusal of the step; V19 where memory runs out for a state that is kept or left pending.
 pub(crate) fn make_step<D: Domain>(
     program: &Program,
-    kept: &mut Kept<D>,
+    kept: &mut KeptStates<D>,
     here: &mut Pending<D>,
     pending: &mut Vec<Pending<D>>,
 ) -> Result<Path, Refusal>

@@ -1,7 +1,7 @@
 use Rattle.std.proofs.Common.{◌++◌, sym, ap, ◌∙◌}
 use Rattle.std.specs.Prelude.{codes, decimal}
 use Rattle.relay.specs.ReasonTexts.{explanation_text, unsent_text}
-use Rattle.relay.specs.declared.reason.Reason.{Reason}
+use Rattle.relay.specs.declared.reason.StepReason.{StepReason}
 use Rattle.relay.proofs.Pushes.{pushed}
 use Rattle.relay.proofs.reason.push_reason.Goals as goal
 
@@ -13,4 +13,4 @@ returns-in-Program-clause-bytes c =
     pushed c.args.text.now.items first last (codes "discarded by the program at slot ") (decimal c.in-Program.slot ++ unsent_text c.in-Program.unsent)
     c.push_bytes-in-Program.ensures.bytes
     (pushed first second last (decimal c.in-Program.slot) (unsent_text c.in-Program.unsent) c.push_number.ensures.bytes c.push_unsent.ensures.bytes)
-    ∙ ap (λ (reason : Reason). c.args.text.now.items ++ explanation_text reason) (sym c.in-Program.is)
+    ∙ ap (λ (reason : StepReason). c.args.text.now.items ++ explanation_text reason) (sym c.in-Program.is)

@@ -1,6 +1,6 @@
 use Rattle.std.proofs.Common.{◌≡◌, sym, ap, ◌∙◌, subst}
 use Rattle.verifier.specs.Keeping.{kept_at, HasCover}
-use Rattle.verifier.specs.declared.kept.Kept.{Kept}
+use Rattle.verifier.specs.declared.kept.KeptStates.{KeptStates}
 use Rattle.verifier.specs.declared.walk.Pending.{Pending}
 use Rattle.verifier.proofs.Slicing.{unit_ends}
 use Rattle.verifier.proofs.slices.step_on.Goals as goal
@@ -13,4 +13,4 @@ pub settle-requires-clause-members : goal.settle-requires-clause-members
 settle-requires-clause-members g c = λ covered.
     let here : c.is_covered-covered.new.at.here.value ≡ c.resume.new.at.here.value = ap (λ (b : _). b.value) c.is_covered-covered.ensures.here in
     subst (λ (p : Pending g.row.D.Denot). HasCover g.D.Domain.Member (kept_at c.is_covered-covered.new.at.kept p.slot) p.state) (sym here)
-    (subst (λ (k : Kept g.row.D.Denot). HasCover g.D.Domain.Member (kept_at k c.resume.new.at.here.value.slot) c.resume.new.at.here.value.state) (sym c.is_covered-covered.ensures.kept) (c.is_covered-covered.ensures.members covered))
+    (subst (λ (k : KeptStates g.row.D.Denot). HasCover g.D.Domain.Member (kept_at k c.resume.new.at.here.value.slot) c.resume.new.at.here.value.state) (sym c.is_covered-covered.ensures.kept) (c.is_covered-covered.ensures.members covered))

@@ -1,5 +1,5 @@
 use Rattle.std.proofs.Common.{◌≡◌, ◌/◌, ◌%◌, ◌∙◌, sym, rules}
-use Rattle.insn.specs.declared.opcode.Source.TheVariants as source
+use Rattle.insn.specs.declared.opcode.OperandSource.TheVariants as source
 use Rattle.insn.proofs.Slots.{neither_bit}
 use Rattle.insn.proofs.Tables.{none_is_not_some}
 use Rattle.insn.proofs.opcode.Opcode.operator_of.Goals as goal

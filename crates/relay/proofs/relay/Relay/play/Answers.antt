@@ -6,7 +6,7 @@ use Rattle.events.specs.Lines.{answer_line}
 use Rattle.events.specs.Reading.{event_in}
 use Rattle.basics.specs.Outputs.{AppendsBeginning}
 use Rattle.relay.specs.ReasonTexts.{line_ending}
-use Rattle.relay.specs.declared.reason.Reason.{Reason}
+use Rattle.relay.specs.declared.reason.StepReason.{StepReason}
 use Rattle.rules.specs.Systems.{with_nonce}
 use Rattle.relay.proofs.Played.{for_err}
 use Rattle.relay.proofs.Plays.{state_is, answer_is, cut_is, read_is}
@@ -34,7 +34,7 @@ pub returns-in_err-write_with-in-Some-Datagram-clause-cut : goal.returns-in_err-
 returns-in_err-write_with-in-Some-Datagram-clause-cut g c =
     let old = c.args.self.now in
     let sent = sending_of c.step.result.action in
-    let P : Option Reason → Type 0 = λ reason. AppendsBeginning c.args.output.now.contents
+    let P : Option StepReason → Type 0 = λ reason. AppendsBeginning c.args.output.now.contents
     c.write_with-in-Some-Datagram.new.output.contents (answer_line sent ++ line_ending reason) in
     for_err c.from_residual-in_err-write_with-in-Some-Datagram.result (λ e.
     cut_is old c.grounds_of_line-grounds.new.self c.parse.new.room c.in-Some-Datagram.meta c.in-Some-Datagram.n
@@ -53,7 +53,7 @@ returns-in_ok-write_with-in-Some-Datagram-clause-written g c =
     let old = c.args.self.now in
     let sent = sending_of c.step.result.action in
     subst (Appends c.args.output.now.contents c.write_with-in-Some-Datagram.new.output.contents)
-    (ap (λ (reason : Option Reason). answer_line sent ++ line_ending reason) c.reason_by.ensures
+    (ap (λ (reason : Option StepReason). answer_line sent ++ line_ending reason) c.reason_by.ensures
     ∙ answer_is old c.grounds_of_line-grounds.new.self c.parse.new.room c.in-Some-Datagram.meta c.in-Some-Datagram.n
     (event_in old.config.slots c.args.line.now) c.grounds_of_line-grounds.ensures.rest
     (ap length (sym c.area.ensures.value) ∙ c.area.ensures.len) (search rules)

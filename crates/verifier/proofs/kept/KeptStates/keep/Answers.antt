@@ -4,7 +4,7 @@ use Rattle.absstate.specs.laws.Step.Packing.{same_item}
 use Rattle.absstate.specs.declared.abstract_state.AbsState.{AbsState}
 use Rattle.verifier.specs.Keeping.{Keeps}
 use Rattle.verifier.proofs.Keeping.{kept_inside, keeps_here}
-use Rattle.verifier.proofs.kept.Kept.keep.Goals as goal
+use Rattle.verifier.proofs.kept.KeptStates.keep.Goals as goal
 
 pub returns-in_ok-push_state : goal.returns-in_ok-push_state
 returns-in_ok-push_state g c =

@@ -2,7 +2,7 @@ use Rattle.std.proofs.Common.{ap, ◌∙◌, List}
 use Rattle.std.specs.Prelude.{slice_index_or, None, Option}
 use Rattle.absstate.specs.declared.abstract_state.AbsState.{AbsState}
 use Rattle.verifier.proofs.Keeping.{marks_one, keeps_none}
-use Rattle.verifier.proofs.kept.Kept.mark.Goals as goal
+use Rattle.verifier.proofs.kept.KeptStates.mark.Goals as goal
 
 pub returns-clause-marks : goal.returns-clause-marks
 returns-clause-marks g c =

@@ -9,7 +9,7 @@ use Rattle.absstate.specs.declared.abstract_state.AbsState.{AbsState}
 use Rattle.verifier.specs.Keeping.{states_of, kept_at}
 use Rattle.verifier.specs.Searches.{HasPassed, Finds, Weighs}
 use Rattle.verifier.proofs.Sizes.{state_fits}
-use Rattle.verifier.proofs.kept.Kept.search.Goals as goal
+use Rattle.verifier.proofs.kept.KeptStates.search.Goals as goal
 
 -- what is read at a slot of the list, by the view of the list
 read_at : {D : Type 0} {items kept : List (Option (List (AbsState D)))} (slot : ℕ) (read : Option (List (AbsState D))) → items ≡ kept → slot < length items → read ≡ slice_index_or items slot read → read ≡ slice_index_or kept slot None
