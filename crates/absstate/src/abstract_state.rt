@@ -17,7 +17,8 @@ use std::alloc::AllocError;
 pub enum Anchor {
     /// The datagram's first byte.
     First,
-    /// A place between two places, by a number of its own. The datagram is proved to reach `proved` bytes from there on.
+    /// A place between two places, by a number of its own. The datagram is proved to reach `proved` bytes from there
+    /// on.
     Made {
         id: u32,
         low: i32,
@@ -272,8 +273,8 @@ pub(crate) const REGISTERS: usize = 11;
 /// The number of values that a state knows: of the registers, and of the groups of the stack.
 pub const VALUES: usize = REGISTERS + GROUPS;
 
-/// The abstract state at a slot: the registers and, after them, the pointers that the groups of the stack hold; the set bytes
-/// of the stack, and a least length of the datagram, `proved`.
+/// The abstract state at a slot: the registers and, after them, the pointers that the groups of the stack hold; the set
+/// bytes of the stack, and a least length of the datagram, `proved`.
 #[derive(Debug, PartialEq, Eq)]
 pub struct AbsState<D> {
     pub registers: [AbstractValue<D>; VALUES],

@@ -274,9 +274,9 @@ impl<D: Domain> AbsState<D> {
 
     /// Makes the abstract step of an instruction.
     ///
-    /// Where it is accepted, the machine's step from each member of the state with a datagram of at most 65,507 bytes isn't
-    /// stuck: it exits where the answer is `Exit`, and else leads to a member of the state after it, of the branch that it
-    /// takes.
+    /// Where it is accepted, the machine's step from each member of the state with a datagram of at most 65,507 bytes
+    /// isn't stuck: it exits where the answer is `Exit`, and else leads to a member of the state after it, of the
+    /// branch that it takes.
     ///
     /// # Errors
     /// The reason for which a step from a member of the state could be stuck.

@@ -14,10 +14,11 @@ use insn::{Condition, Operand, Reg, Width};
 use interval::{Domain, Refined, Test};
 use semantics::{Comparison, Reason};
 
-/// Returns the change that narrows the operands of a passed test. An imm isn't changed, and neither is a register that is
-/// compared with itself.
+/// Returns the change that narrows the operands of a passed test. An imm isn't changed, and neither is a register that
+/// is compared with itself.
 fn with_operands<D: Copy>(dst: Reg, operand: Operand, left: Refined<D>) -> Change<D>
-    ensures { (state : AbsState D) → state_after_change state result ≡ with_operands state dst operand (left.a, left.b) }
+    ensures { (state : AbsState D) → state_after_change state result
+        ≡ with_operands state dst operand (left.a, left.b) }
 {
     match operand {
         Operand::Imm(_) => Change::Register {

@@ -34,8 +34,8 @@ fn number_argument<D: Copy>(state: &AbsState<D>, reg: Reg) -> Result<(), Reason>
     }
 }
 
-/// Returns the index, among the stack cells, of the `n` bytes that a pointer points to, or `None` where they don't lie in
-/// the stack.
+/// Returns the index, among the stack cells, of the `n` bytes that a pointer points to, or `None` where they don't lie
+/// in the stack.
 #[tactic(auto, using(semantics::specs::laws::Access::index_short))]
 fn stack_index<D: Copy>(pointer: AbstractValue<D>, n: usize) -> Option<usize>
     requires { n ≤ STACK_BYTES }
@@ -75,7 +75,8 @@ fn with_argument<D: Copy>(
 ) -> Result<Option<Room>, Reason>
     requires { IfSome out (λ room. room.index + record_bytes room.form ≤ STACK_BYTES) }
     ensures out { result ≡ abstract_with_argument state.now reg argument out }
-    ensures inside { IfOk result (λ written. IfSome written (λ room. room.index + record_bytes room.form ≤ STACK_BYTES)) }
+    ensures inside { IfOk result (λ written. IfSome written
+        (λ room. room.index + record_bytes room.form ≤ STACK_BYTES)) }
 {
     match argument {
         Argument::Unused => {}

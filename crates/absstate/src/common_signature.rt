@@ -22,8 +22,8 @@ pub(crate) struct CommonMargins {
     total: u128,
 }
 
-/// What some signatures have in common: the bits that each of them has, the least of their margins, a bit for the values of each,
-/// by their hash, and what their links have.
+/// What some signatures have in common: the bits that each of them has, the least of their margins, a bit for the
+/// values of each, by their hash, and what their links have.
 /// See docs/DESIGN.md, "What distinguishes a kept state".
 #[derive(Clone, Copy, Debug, PartialEq, Eq)]
 pub struct CommonSignature {

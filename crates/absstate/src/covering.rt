@@ -35,8 +35,8 @@ fn covers_places(a: Anchor, b: Anchor) -> bool
     a_low <= b_low && b_high <= a_high
 }
 
-/// Returns whether an anchor has each place of another one, and no more is proved of it. `proved` and `other_proved` are the
-/// proved lengths of their states.
+/// Returns whether an anchor has each place of another one, and no more is proved of it. `proved` and `other_proved`
+/// are the proved lengths of their states.
 fn covers_anchor<D: Copy>(a: Anchor, b: Anchor, proved: i64, other_proved: i64) -> bool
     ensures { (s t : AbsState D) → s.proved ≡ proved → t.proved ≡ other_proved → result ≡ covers_anchor s t a b }
 {
@@ -69,7 +69,8 @@ pub(crate) fn covers_value<D: Domain>(
     }
 }
 
-/// Returns whether no more is known of the values of a state than of those of another state, whose proved lengths are these.
+/// Returns whether no more is known of the values of a state than of those of another state, whose proved lengths are
+/// these.
 fn covers_values<D: Domain>(
     values: &[AbstractValue<D>],
     others: &[AbstractValue<D>],
@@ -199,8 +200,8 @@ pub(crate) fn covers_marks(marks: &[bool], others: &[bool]) -> bool
     }
 }
 
-/// Returns whether no more is proved of the datagram in a state than in the other state, and no more bytes of the stack are
-/// set.
+/// Returns whether no more is proved of the datagram in a state than in the other state, and no more bytes of the stack
+/// are set.
 fn covers_memory<D: Copy>(state: &AbsState<D>, other: &AbsState<D>) -> bool
     ensures { result ≡ covers_memory state.now other.now }
 {

@@ -6,8 +6,8 @@ ghost use Rattle.absstate.specs.Signatures.{value_margins, margins_of};
 use crate::abstract_state::AbstractValue;
 use interval::{Bounds, Domain};
 
-/// How many words values leave out, together: those below them, and all of them. A value that is known exactly and is no number
-/// leaves out every word on both sides.
+/// How many words values leave out, together: those below them, and all of them. A value that is known exactly and is
+/// no number leaves out every word on both sides.
 #[derive(Clone, Copy, Debug, PartialEq, Eq)]
 pub(crate) struct Margins {
     pub(crate) below: u128,

@@ -1,5 +1,5 @@
-//! The marks of a state as words. A state covers only states whose words have all bits of its own, which a few comparisons
-//! decide.
+//! The marks of a state as words. A state covers only states whose words have all bits of its own, which a few
+//! comparisons decide.
 
 ghost use Rattle.std.specs.Prelude.{◌≡◌, ◌<◌, true, false, length, IfNone, IfSome};
 ghost use Rattle.semantics.specs.declared.limits.TheConstants.{STACK_BYTES};

@@ -17,8 +17,8 @@ use interval::Domain;
 use std::alloc::{AllocError, Global};
 use std::marker::Model;
 
-/// A state that is kept: its marks are words, and its groups are there only where one holds a pointer, in chunks that kept
-/// states share.
+/// A state that is kept: its marks are words, and its groups are there only where one holds a pointer, in chunks that
+/// kept states share.
 #[derive(Drop)]
 pub struct PackedState<D> {
     registers: [AbstractValue<D>; REGISTERS],
@@ -38,7 +38,8 @@ impl<D> Model for PackedState<D> {
 
     ghost view = { λ p. unpacked p.registers (joined p.chunks.items) p.words p.proved };
 
-    ghost invariant = { λ p. (length (joined p.chunks.items) ≤ GROUPS) × (words_of (marks_of p.words) ≡ p.words) × (length (marks_of p.words) ≡ STACK_BYTES) };
+    ghost invariant = { λ p. (length (joined p.chunks.items) ≤ GROUPS) × (words_of (marks_of p.words) ≡ p.words)
+        × (length (marks_of p.words) ≡ STACK_BYTES) };
 }
 
 /// Writes values from an index on.
@@ -75,8 +76,8 @@ fn put_chunks<D: Copy>(values: &mut [AbstractValue<D>], at: usize, chunks: &[Chu
     }
 }
 
-/// Returns the values of groups as they are kept: none, where no group is known to hold a pointer. Chunks of another state
-/// are shared where it knows the same.
+/// Returns the values of groups as they are kept: none, where no group is known to hold a pointer. Chunks of another
+/// state are shared where it knows the same.
 ///
 /// # Errors
 /// Where memory runs out.
@@ -106,8 +107,8 @@ fn eleven<D: Copy>(values: &[AbstractValue<D>]) -> [AbstractValue<D>; REGISTERS]
     registers
 }
 
-/// Returns the first value of a state, with its index, that doesn't cover the one of another state at its place. `proved` and
-/// `other_proved` are the proved lengths of both.
+/// Returns the first value of a state, with its index, that doesn't cover the one of another state at its place.
+/// `proved` and `other_proved` are the proved lengths of both.
 fn first_uncovered<D: Domain>(
     values: &[AbstractValue<D>],
     others: &[AbstractValue<D>],
@@ -173,12 +174,13 @@ impl<D: Domain> PackedState<D> {
         first_uncovered(&self.registers, others, self.proved(), other_proved)
     }
 
-    /// Returns the part in which a state, whose marks are these words, is found to differ from this one, which doesn't cover it.
-    /// `None` is a state that it covers: each member of that one is a member of this one.
+    /// Returns the part in which a state, whose marks are these words, is found to differ from this one, which doesn't
+    /// cover it. `None` is a state that it covers: each member of that one is a member of this one.
     pub fn difference(&self, other: &AbsState<D>, words: &MarkWords) -> Option<Part<D>>
         requires { words.now ≡ words_of other.now.marks.cells }
         ensures none { IfNone result (covers D.ops self.now other.now ≡ true) }
-        ensures members { result ≡ None → (s : State) → IsMember D.Member Loose other.now s → IsMember D.Member Loose self.now s }
+        ensures members { result ≡ None → (s : State) → IsMember D.Member Loose other.now s
+            → IsMember D.Member Loose self.now s }
         ensures some { IfSome result (Differs D.ops self.now other.now) }
     {
         if let Some(index) = first_outside(&self.words, words) {
@@ -224,7 +226,8 @@ impl<D: Copy> AbsState<D> {
         self.marks.words()
     }
 
-    /// Returns this state as it is kept. It shares what it knows of groups with a kept state that knows the same of them.
+    /// Returns this state as it is kept. It shares what it knows of groups with a kept state that knows the same of
+    /// them.
     ///
     /// # Errors
     /// Where memory runs out.

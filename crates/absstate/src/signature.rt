@@ -19,9 +19,9 @@ pub(crate) struct MarkBits {
     pub(crate) two: u64,
 }
 
-/// What is compared of states first: words that have a bit for each register that is known exactly, for each such group, and for
-/// marks, and one for each place past whose anchor something is proved; how many words all values leave out; all values, hashed, by
-/// their bounds, kinds and offsets; and which places are at the anchor of an earlier one.
+/// What is compared of states first: words that have a bit for each register that is known exactly, for each such
+/// group, and for marks, and one for each place past whose anchor something is proved; how many words all values leave
+/// out; all values, hashed, by their bounds, kinds and offsets; and which places are at the anchor of an earlier one.
 /// See docs/DESIGN.md, "What distinguishes a kept state".
 #[derive(Clone, Copy, Debug, PartialEq, Eq)]
 pub struct StateSignature {
@@ -184,8 +184,8 @@ impl StateSignature {
     ghost use Rattle.std.specs.Prelude.{◌≡◌};
     ghost use Rattle.absstate.specs.Signatures.{lies_within};
 
-    /// Returns whether all bits of this signature are bits of another one, of a state whose values leave out as many words or
-    /// more and have the same hash where it is as many, and that has more links or the same.
+    /// Returns whether all bits of this signature are bits of another one, of a state whose values leave out as many
+    /// words or more and have the same hash where it is as many, and that has more links or the same.
     pub fn lies_within(self, other: StateSignature) -> bool
         ensures { result ≡ lies_within self other }
     {

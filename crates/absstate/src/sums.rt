@@ -19,7 +19,8 @@ pub(crate) struct Operator {
     pub(crate) width: Width,
 }
 
-/// Returns a place moved by a number. `None` for an operator that moves no pointer, or where the place would lie too far.
+/// Returns a place moved by a number. `None` for an operator that moves no pointer, or where the place would lie too
+/// far.
 fn near_sum(operator: Operator, place: i64, by: u64) -> Option<i32>
     ensures { result ≡ moved_place operator.op operator.width place by }
 {
@@ -68,8 +69,8 @@ fn short_offset(offset: i64) -> Option<i32>
     }
 }
 
-/// Returns the offset from an anchor with places from `low` to `high`, moved by a single number. `None` where a place would
-/// lie too far.
+/// Returns the offset from an anchor with places from `low` to `high`, moved by a single number. `None` where a place
+/// would lie too far.
 /// See docs/DECISIONS.md, "Offsets in 32 bits".
 fn moved_offset(operator: Operator, low: i32, high: i32, offset: i32, by: u64) -> Option<i32>
     ensures { result ≡ moved_offset operator.op operator.width low high offset by }
@@ -149,8 +150,8 @@ fn made_anchor<D: Copy>(state: &AbsState<D>, anchor: Anchor, low: i32, high: i32
     }
 }
 
-/// Returns a place at an anchor of its own, from `low` to `high`, where the bounds are on one side of 2^63 and a number is left
-/// for an anchor.
+/// Returns a place at an anchor of its own, from `low` to `high`, where the bounds are on one side of 2^63 and a number
+/// is left for an anchor.
 fn made_between<D: Copy>(
     state: &AbsState<D>,
     anchor: Anchor,
@@ -196,7 +197,8 @@ fn single_sum(anchor: Anchor, operator: Operator, offset: i32, by: u64) -> Optio
     }
 }
 
-/// Returns the sum of a place of the datagram and a number: a single one moves the offset, any other one makes an anchor.
+/// Returns the sum of a place of the datagram and a number: a single one moves the offset, any other one makes an
+/// anchor.
 pub(crate) fn data_sum<D: Copy>(
     state: &AbsState<D>,
     anchor: Anchor,

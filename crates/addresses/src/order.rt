@@ -50,8 +50,8 @@ impl Addr {
         }
     }
 
-    /// Compares the IP addresses alone, not the ports. An address of IPv4 is less than one of IPv6, and two of one family
-    /// compare by their bytes.
+    /// Compares the IP addresses alone, not the ports. An address of IPv4 is less than one of IPv6, and two of one
+    /// family compare by their bytes.
     pub fn cmp_ip(&self, other: &Addr) -> Ordering
         ensures { result ≡ ip_order (ip_of self.now) (ip_of other.now) }
     {
@@ -84,7 +84,8 @@ impl Addr {
 impl PartialOrd for Addr {
     ghost partial_cmp = { as_partial_cmp address_order };
 
-    ghost laws = { partial_order_from_agreeing_total address_order address_order-total (λ a b. refl) address_order-ties };
+    ghost laws = { partial_order_from_agreeing_total address_order address_order-total
+        (λ a b. refl) address_order-ties };
 
     fn partial_cmp(&self, other: &Addr) -> Option<Ordering> {
         Some(self.cmp(other))
@@ -100,8 +101,8 @@ impl Ord for Addr {
 
     ghost matches_eq = { address_order-ties };
 
-    /// Compares two addresses: those of IPv4 are less than those of IPv6, and those of one family compare by the bytes of
-    /// the IP address, and then by the port.
+    /// Compares two addresses: those of IPv4 are less than those of IPv6, and those of one family compare by the bytes
+    /// of the IP address, and then by the port.
     fn cmp(&self, other: &Addr) -> Ordering {
         match (self, other) {
             (Addr::V4 { ip: a, port: p }, Addr::V4 { ip: b, port: q }) => {

@@ -177,7 +177,8 @@ impl<'a> Parser<'a> {
     /// Returns the next token: a word, or one other character. A comment ends the line.
     #[tactic(auto, using(crate::proofs::Words::no_token, crate::proofs::Words::comment_token, crate::proofs::Words::first_length, crate::proofs::Words::next_token))]
     pub(crate) fn next(&mut self) -> Option<&'a [u8]>
-        ensures { MatchOption result (tokens_ahead self.old ≡ []) (λ t. tokens_ahead self.old ≡ t.now ∷ tokens_ahead self.new) }
+        ensures { MatchOption result (tokens_ahead self.old ≡ []) (λ t. tokens_ahead self.old
+            ≡ t.now ∷ tokens_ahead self.new) }
     {
         self.skip_blanks();
         let (first, _) = self.rest.split_first()?;

@@ -105,7 +105,8 @@ fn linked(table: &Table<'_>, insn: Insn, label: Option<&[u8]>, slot: usize) -> O
     Some(insn.with_distance(target as i16 - (slot + 1) as i16))
 }
 
-/// Returns the instructions of a text whose lines have no fault, with the distances of the jumps to labels, and their lines.
+/// Returns the instructions of a text whose lines have no fault, with the distances of the jumps to labels, and their
+/// lines.
 ///
 /// # Errors
 /// `UnknownLabel` at the first line that names an unknown one, or `Memory`.

@@ -1,5 +1,5 @@
-//! Decimal numbers in texts, inputs and outputs that remember that they failed, and a ghost counter. How definitions write steps
-//! that may fail is in `specs/`, and has no code.
+//! Decimal numbers in texts, inputs and outputs that remember that they failed, and a ghost counter. How definitions
+//! write steps that may fail is in `specs/`, and has no code.
 #![tactic(auto)]
 
 pub mod decimal;

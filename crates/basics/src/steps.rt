@@ -5,8 +5,8 @@ ghost use Rattle.std.specs.Prelude.{ℕ, ◌≤◌, ◌+◌};
 use std::marker::Model;
 use std::sync::ledger::{Blank, Book, Ledger, Share};
 
-/// What counts. A function that is generic over it has one body, which its contract bounds by the count, and is called without a
-/// count by [`Uncounted`].
+/// What counts. A function that is generic over it has one body, which its contract bounds by the count, and is called
+/// without a count by [`Uncounted`].
 pub trait Count {
     ghost count: { Self → ℕ };
 
@@ -25,8 +25,8 @@ impl Count for Uncounted {
     fn tick(&mut self) {}
 }
 
-/// How many steps were made: abstract steps of the verifier, and keys that look-ups of the tables compare. It has no bytes
-/// at run time, and only `tick` changes it.
+/// How many steps were made: abstract steps of the verifier, and keys that look-ups of the tables compare. It has no
+/// bytes at run time, and only `tick` changes it.
 /// See docs/DECISIONS.md, "One count".
 #[derive(Drop)]
 pub struct Steps<L: Ledger> {

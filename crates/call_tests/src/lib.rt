@@ -1,5 +1,5 @@
-//! Tests of single calls that no row can say: what a frame keeps, outputs that fail, the longest programs, and the limits; a server
-//! over UDP sockets, and replies whose contracts are proved with the tests.
+//! Tests of single calls that no row can say: what a frame keeps, outputs that fail, the longest programs, and the
+//! limits; a server over UDP sockets, and replies whose contracts are proved with the tests.
 #![tactic(auto)]
 
 #[cfg(test)]

@@ -47,8 +47,8 @@ fn check_binding_success(rt: &impl Abort) {
     assert!(rt; out == want);
 }
 
-/// Demands credentials of an Allocate request: writes the reply, and returns its length. The pushes can't fail, and the contract
-/// needs no proof of its own.
+/// Demands credentials of an Allocate request: writes the reply, and returns its length. The pushes can't fail, and the
+/// contract needs no proof of its own.
 fn demand(out: &mut [u8], tx: &[u8; 12], realm: &[u8], nonce: &[u8]) -> usize
     requires room { 1500 ≤ length out.old }
     requires realm { length realm.now ≤ 128 }

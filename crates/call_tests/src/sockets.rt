@@ -29,8 +29,8 @@ struct Sockets {
     slot: UdpSocket,
 }
 
-/// The sockets of a client and a peer. The client's is connected to that of clients and the peer's to that of the slot, so
-/// each receives from there alone.
+/// The sockets of a client and a peer. The client's is connected to that of clients and the peer's to that of the slot,
+/// so each receives from there alone.
 #[derive(Drop)]
 struct Ends {
     client: UdpSocket,

@@ -32,7 +32,8 @@ const ABOUT: &str =
 The exit status is 0 for success, 1 for a refusal or a run that is stuck, 2 for a wrong command line,
 3 for a file, an output or a socket that can't be used, and 4 where memory runs out.";
 
-/// The options that set up a relay. Those that have a default have it where they are not given, and the others are `None`.
+/// The options that set up a relay. Those that have a default have it where they are not given, and the others are
+/// `None`.
 #[derive(Clone, Copy, Debug)]
 pub struct Options<'a> {
     /// The realm; `relay` by default.
@@ -59,12 +60,13 @@ pub struct Options<'a> {
     pub client: Option<&'a str>,
     /// The file of the program for peers' datagrams.
     pub peer: Option<&'a str>,
-    /// The addresses that count as others where it is asked whether a peer is permitted, each as `A=B`, in the order in which
-    /// they are given.
+    /// The addresses that count as others where it is asked whether a peer is permitted, each as `A=B`, in the order in
+    /// which they are given.
     pub same_as: Option<&'a [&'a str]>,
 }
 
-/// The options of a server alone. Those that have a default have it where they are not given, and the others are `None`.
+/// The options of a server alone. Those that have a default have it where they are not given, and the others are
+/// `None`.
 #[derive(Clone, Copy, Debug)]
 pub struct ServerOptions<'a> {
     /// The UDP port for clients.
@@ -105,7 +107,8 @@ pub struct ServerOptions<'a> {
     pub shadow_peer: Option<&'a str>,
 }
 
-/// The options of a replay alone. Those that have a default have it where they are not given, and the others are `None`.
+/// The options of a replay alone. Those that have a default have it where they are not given, and the others are
+/// `None`.
 #[derive(Clone, Copy, Debug)]
 pub struct ReplayOptions<'a> {
     /// The file of the events; `-` is standard input.
@@ -145,8 +148,8 @@ pub struct TraceOptions<'a> {
     pub channels: Option<&'a [&'a str]>,
 }
 
-/// A subcommand of relayd, with the values of its arguments. `lines` is the file of a source map: one that is read, whose lines are
-/// printed beside the slots of the program, or one that is written.
+/// A subcommand of relayd, with the values of its arguments. `lines` is the file of a source map: one that is read,
+/// whose lines are printed beside the slots of the program, or one that is written.
 #[derive(Clone, Copy, Debug)]
 pub enum Subcommand<'a> {
     /// Verify the program in a file.
@@ -154,8 +157,8 @@ pub enum Subcommand<'a> {
         file: &'a str,
         lines: Option<&'a str>,
     },
-    /// Print what the verifier knows of the program in a file, or why it refuses it. `slot` is the slot whose states are
-    /// printed, and `None` stands for all.
+    /// Print what the verifier knows of the program in a file, or why it refuses it. `slot` is the slot whose states
+    /// are printed, and `None` stands for all.
     Explain {
         file: &'a str,
         slot: Option<usize>,
@@ -180,8 +183,8 @@ pub enum Subcommand<'a> {
         output: &'a str,
         lines: Option<&'a str>,
     },
-    /// Put the program in a file in an order in which every jump leads forward, and write the program to another. `from` is the
-    /// source map of the program in the first file, and `None` stands for its slots.
+    /// Put the program in a file in an order in which every jump leads forward, and write the program to another.
+    /// `from` is the source map of the program in the first file, and `None` stands for its slots.
     Order {
         input: &'a str,
         output: &'a str,
@@ -204,8 +207,8 @@ pub enum Subcommand<'a> {
         server: ServerOptions<'a>,
         options: Options<'a>,
     },
-    /// Check a server, an address or a name with a port, as a client does. `user` is a name and a password with a colon between
-    /// them, and `None` is to make no allocation.
+    /// Check a server, an address or a name with a port, as a client does. `user` is a name and a password with a colon
+    /// between them, and `None` is to make no allocation.
     Check {
         server: &'a str,
         user: Option<&'a str>,
@@ -284,7 +287,8 @@ fn relayd<'a>(alloc: Global) -> Result<Command<'a>, AllocError>
     Ok(command)
 }
 
-/// Parses the words of a command line, of which the first is the program's name. Where it accepts them, a subcommand is there.
+/// Parses the words of a command line, of which the first is the program's name. Where it accepts them, a subcommand is
+/// there.
 /// See docs/DECISIONS.md, "Command lines are clap's".
 ///
 /// # Errors

@@ -36,8 +36,8 @@ fn taken(arguments: &[ArgumentWords], name: &str) -> Option<Takes> {
     Some(found.takes)
 }
 
-/// Returns the option of a line of a file; `None` for a line that is empty, or a comment. Its name ends at the first blank, and
-/// the value is what follows, without the blanks around it.
+/// Returns the option of a line of a file; `None` for a line that is empty, or a comment. Its name ends at the first
+/// blank, and the value is what follows, without the blanks around it.
 ///
 /// # Errors
 /// Why it has none.

@@ -249,7 +249,8 @@ fn check_of<'a>(matches: &'a ArgMatches<'_>) -> Option<Subcommand<'a>> {
     Some(Subcommand::Check { server, user })
 }
 
-/// Returns the subcommand of this name, of its matches, or `None` where relayd has none of the name, or an argument is missing.
+/// Returns the subcommand of this name, of its matches, or `None` where relayd has none of the name, or an argument is
+/// missing.
 fn named<'a>(
     name: &str,
     matches: &'a ArgMatches<'_>,
@@ -273,8 +274,8 @@ fn named<'a>(
 /// subcommand of relayd.
 ///
 /// # Errors
-/// The first text that spells no value of its option, in this order: those of `--port`, `--rounds`, `--listen`, `--listen6`,
-/// `--buffer`, `--nonce-lifetime`, `--stats` and `--record-limit`; then those of `--relay-ip6`, `--slots`,
+/// The first text that spells no value of its option, in this order: those of `--port`, `--rounds`, `--listen`,
+/// `--listen6`, `--buffer`, `--nonce-lifetime`, `--stats` and `--record-limit`; then those of `--relay-ip6`, `--slots`,
 /// `--user-slots`, `--relay-ip` and `--first-port`.
 /// See docs/DECISIONS.md, "Numbers of options".
 pub fn subcommand_of<'a>(

@@ -1,5 +1,5 @@
-//! The values that the texts of options spell. Each function returns `None` where the option is not given, and refuses a text
-//! that spells none.
+//! The values that the texts of options spell. Each function returns `None` where the option is not given, and refuses
+//! a text that spells none.
 
 ghost use Rattle.std.specs.Prelude.{◌≡◌, ◌^◌, IfOk, IfErr};
 ghost use Rattle.std.specs.Net.Grammar.{IsIpv4Text, IsIpv6Text};
@@ -73,7 +73,8 @@ pub(crate) fn port<'a>(
     }
 }
 
-/// Parses the IPv4 address of an option: four decimal numbers below 256, without needless zeros, with dots between them.
+/// Parses the IPv4 address of an option: four decimal numbers below 256, without needless zeros, with dots between
+/// them.
 pub(crate) fn ip<'a>(
     option: &'static str,
     text: Option<&'a str>,

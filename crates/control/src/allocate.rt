@@ -93,7 +93,8 @@ fn acceptable(config: &Config, message: &Message<'_>) -> Result<(Family, u32), E
 
 /// Returns whether the owner of what a request would allocate may have a further allocation.
 fn has_quota(tables: &Tables, config: &Config, message: &Message<'_>, now: u64) -> bool
-    ensures { result ≡ has_quota config.now.user_slots (allocations_of (owner_in message.now) (rows_at now tables.now)) }
+    ensures { result ≡ has_quota config.now.user_slots
+        (allocations_of (owner_in message.now) (rows_at now tables.now)) }
 {
     match config.user_slots {
         Some(quota) => tables.allocations_of(&owner_in(message), now) < quota,
@@ -160,8 +161,8 @@ fn allocate_anew(
     allocate_given(tables, client, user, message, given, now)
 }
 
-/// Answers an Allocate request of a user. A client that has an allocation gets the first success again where the request
-/// is the one that made it.
+/// Answers an Allocate request of a user. A client that has an allocation gets the first success again where the
+/// request is the one that made it.
 ///
 /// # Errors
 /// The error of the first test that fails.
@@ -174,7 +175,8 @@ pub(crate) fn allocate(
     now: u64,
 ) -> Result<Grant, ErrorCode>
     requires ipv4 { IsTrue (is_ipv4 client) }
-    ensures gives { Gives (allocate_decision config.now client user message.now (rows_at now tables.old)) tables.old result tables.new }
+    ensures gives { Gives (allocate_decision config.now client user message.now
+        (rows_at now tables.old)) tables.old result tables.new }
     ensures inside { IfOk result (HasSlotBelow (length tables.old.slots)) }
     ensures moment { (tables.old.moment ≤ tables.new.moment)
         × (tables.new.moment ≤ moment_of tables.old.moment now) }

@@ -25,24 +25,25 @@ pub struct Config {
     pub first_port: u16,
     /// The number of slots, 1 to 256; the last port is at most 65,535.
     pub slots: usize,
-    /// How many allocations a user may have at once, if that is limited. Names of time-limited credentials that differ in their
-    /// expiry alone are of one user ([`owner_of`](credentials::owner_of)).
+    /// How many allocations a user may have at once, if that is limited. Names of time-limited credentials that differ
+    /// in their expiry alone are of one user ([`owner_of`](credentials::owner_of)).
     pub user_slots: Option<usize>,
     /// The realm: 1 to 128 bytes of 0x20 to 0x7E.
     pub realm: String,
     /// The current nonce: 1 to 64 bytes of 0x21 to 0x7E.
     pub nonce: ArrayString<64>,
-    /// The users, at most 64, and at least one where there is no secret, with distinct names of 1 to 128 bytes of 0x21 to 0x7E
-    /// without `:`, and passwords of 1 to 128 bytes of 0x20 to 0x7E ([`are_users`]).
+    /// The users, at most 64, and at least one where there is no secret, with distinct names of 1 to 128 bytes of 0x21
+    /// to 0x7E without `:`, and passwords of 1 to 128 bytes of 0x20 to 0x7E ([`are_users`]).
     pub users: Vec<User>,
     /// The secret of time-limited credentials, 16 to 128 bytes, if such credentials are accepted.
     pub secret: Option<Vec<u8>>,
     /// The secret that was the secret before, 16 to 128 bytes, if credentials under it are accepted as well.
     pub former_secret: Option<Vec<u8>>,
-    /// The users whose credentials aren't accepted, each by the digest of its name ([`owner_of`](credentials::owner_of)).
+    /// The users whose credentials aren't accepted, each by the digest of its name
+    /// ([`owner_of`](credentials::owner_of)).
     pub revoked: Vec<[u8; 20]>,
-    /// How many seconds the system's clock, since 1970, is ahead of the moments. Time-limited credentials expire by that clock,
-    /// and nothing else is by it.
+    /// How many seconds the system's clock, since 1970, is ahead of the moments. Time-limited credentials expire by
+    /// that clock, and nothing else is by it.
     pub clock_ahead: i64,
 }
 
@@ -117,9 +118,9 @@ fn are_distinct(users: &[User]) -> bool
     true
 }
 
-/// Returns whether these can be the users of a relay: at most [`MAX_USERS`], and at least one where there is no secret of
-/// time-limited credentials, with distinct names of 1 to 128 bytes of 0x21 to 0x7E without `:`, and passwords of 1 to 128 bytes of
-/// 0x20 to 0x7E.
+/// Returns whether these can be the users of a relay: at most [`MAX_USERS`], and at least one where there is no secret
+/// of time-limited credentials, with distinct names of 1 to 128 bytes of 0x21 to 0x7E without `:`, and passwords of 1
+/// to 128 bytes of 0x20 to 0x7E.
 pub fn are_users(has_secret: bool, users: &[User]) -> bool
     ensures { result ≡ are_users has_secret users.now }
 {

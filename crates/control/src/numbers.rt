@@ -8,8 +8,8 @@ use crate::lifetime::{MAX_LIFETIME, MIN_LIFETIME};
 use crate::reply::REPLY_BYTES;
 use crate::unknown::MAX_UNKNOWN;
 
-/// States the lifetimes that are given, in seconds, the protocol number of UDP, how many types a reply lists, the room for
-/// a reply, and the greatest length of a realm, a name or a password, both in bytes.
+/// States the lifetimes that are given, in seconds, the protocol number of UDP, how many types a reply lists, the room
+/// for a reply, and the greatest length of a realm, a name or a password, both in bytes.
 pub fn law_all_numbers()
     ensures shortest { MIN_LIFETIME ≡ 600 }
     ensures longest { MAX_LIFETIME ≡ 3600 }

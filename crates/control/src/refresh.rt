@@ -36,7 +36,8 @@ pub(crate) fn refresh(
     message: &Message<'_>,
     now: u64,
 ) -> Result<Grant, ErrorCode>
-    ensures gives { Gives (refresh_decision client user message.now (rows_at now tables.old)) tables.old result tables.new }
+    ensures gives { Gives (refresh_decision client user message.now
+        (rows_at now tables.old)) tables.old result tables.new }
     ensures moment { (tables.old.moment ≤ tables.new.moment)
         × (tables.new.moment ≤ moment_of tables.old.moment now) }
     ensures slots { length tables.new.slots ≡ length tables.old.slots }

@@ -1,4 +1,5 @@
-//! Replies (RFC 8489, sections 6.3 and 9.2.4; RFC 8656, sections 7 to 12). There is always room for one, so none can fail.
+//! Replies (RFC 8489, sections 6.3 and 9.2.4; RFC 8656, sections 7 to 12). There is always room for one, so none can
+//! fail.
 
 ghost use Rattle.std.specs.Prelude.{◌≡◌, ◌≤◌, ◌+◌, ◌<◌, [], ◌∷◌, take, drop, length, Ok, Err, IfOk, option_map, string_bytes};
 ghost use Rattle.stun.specs.Builders.{bytes_of, parts_of, used_of, capacity_of, SameBuffer};

@@ -119,8 +119,8 @@ fn time_limited<'a>(
     }
 }
 
-/// Checks the credentials of a request with the realm, the users and the nonce of a configuration, and with a secret, if there is one.
-/// `held` is the user of the client's allocation, if it has one.
+/// Checks the credentials of a request with the realm, the users and the nonce of a configuration, and with a secret,
+/// if there is one. `held` is the user of the client's allocation, if it has one.
 ///
 /// # Errors
 /// The first test that fails, in the order of [`AuthError`].
@@ -145,8 +145,8 @@ fn check_under(
     )
 }
 
-/// Checks the credentials of a request under the secret of a configuration, and where they are refused under its former one, if it
-/// has one.
+/// Checks the credentials of a request under the secret of a configuration, and where they are refused under its former
+/// one, if it has one.
 ///
 /// # Errors
 /// The first test that fails under the secret.
@@ -176,7 +176,8 @@ fn is_revoked(config: &Config, message: &Message<'_>) -> bool
     config.revoked.iter().any(|revoked| *revoked == owner)
 }
 
-/// Checks the credentials of a request that a client sent, with the realm, the users, the secrets and the nonce of a configuration.
+/// Checks the credentials of a request that a client sent, with the realm, the users, the secrets and the nonce of a
+/// configuration.
 ///
 /// # Errors
 /// The first test that fails, in the order of [`AuthError`]; a user that is revoked is unknown.
@@ -244,9 +245,9 @@ fn answer_user(
 }
 
 /// Answers a message of a client at a moment, in seconds: changes the tables, writes the reply over the first bytes of
-/// `out`, and returns its length and what it says; `None` is no reply. Requests of the methods Binding, Allocate, Refresh,
-/// CreatePermission and ChannelBind are answered, and those of clients over IPv4 alone; nothing else changes anything. An
-/// error response changes no table.
+/// `out`, and returns its length and what it says; `None` is no reply. Requests of the methods Binding, Allocate,
+/// Refresh, CreatePermission and ChannelBind are answered, and those of clients over IPv4 alone; nothing else changes
+/// anything. An error response changes no table.
 ///
 /// `out` has at least [`REPLY_BYTES`](crate::REPLY_BYTES) bytes, which every reply fits in; the configuration has no
 /// fault, and the tables have its slots.

@@ -22,8 +22,8 @@ fn index_of(users: &[User], user: &User) -> Option<usize>
     users.iter().position(|other| is_same(user, other))
 }
 
-/// Returns for each of at most [`MAX_USERS`] users the index that it has among the users that replace them, with the same name
-/// and the same password; `None` where these haven't that user.
+/// Returns for each of at most [`MAX_USERS`] users the index that it has among the users that replace them, with the
+/// same name and the same password; `None` where these haven't that user.
 /// See docs/DECISIONS.md, "Users that are replaced".
 pub fn new_indices(old: &[User], new: &[User]) -> ArrayVec<Option<usize>, MAX_USERS>
     requires { length old.now ≤ MAX_USERS }

@@ -190,9 +190,8 @@ impl Directory<'_> {
 }
 
 /// Checks the credentials of a request, in one scan of its attributes: it has a MESSAGE-INTEGRITY, a name, a realm
-/// and the nonce, the name has an account in a directory, and the MESSAGE-INTEGRITY is the right one under the key of that
-/// account, which is returned.
-/// The realm that the request names is not compared.
+/// and the nonce, the name has an account in a directory, and the MESSAGE-INTEGRITY is the right one under the key of
+/// that account, which is returned. The realm that the request names is not compared.
 ///
 /// # Errors
 /// Returns the first test that fails, in the order of [`AuthError`].
@@ -218,8 +217,8 @@ pub fn authenticate(
     }
 }
 
-/// Checks the credentials of a request as [`authenticate`] does, where no credentials are time-limited, and returns the index
-/// of the user alone.
+/// Checks the credentials of a request as [`authenticate`] does, where no credentials are time-limited, and returns the
+/// index of the user alone.
 ///
 /// # Errors
 /// Returns those of [`authenticate`].

@@ -16,8 +16,8 @@ use crate::key::Key;
 use stun::registry::attribute::MESSAGE_INTEGRITY;
 use stun::{Builder, NoRoom};
 
-/// Returns the HMAC under a key over the bytes before a MESSAGE-INTEGRITY, with the length in the header counted to the end
-/// of that attribute (RFC 8489, section 14.5), whatever length it had.
+/// Returns the HMAC under a key over the bytes before a MESSAGE-INTEGRITY, with the length in the header counted to the
+/// end of that attribute (RFC 8489, section 14.5), whatever length it had.
 pub(crate) fn integrity_over(front: &[u8], key: &Key) -> [u8; 20]
     requires { 20 ≤ length front.now }
     ensures { (p : Parts) (n : ℕ) (attributes : List PaddedAttribute) → length p.tx ≡ 12
@@ -69,8 +69,8 @@ pub fn law_what_is_signed_is_right()
         → integrity_under key (with_integrity key p) ≡ first_value (with_integrity key p) message_integrity }
 {}
 
-/// States that a message which lacks only its MESSAGE-INTEGRITY, signed under the key of its name's account, is accepted:
-/// [`authenticate`](crate::authenticate) returns that account.
+/// States that a message which lacks only its MESSAGE-INTEGRITY, signed under the key of its name's account, is
+/// accepted: [`authenticate`](crate::authenticate) returns that account.
 pub fn law_what_is_signed_is_accepted()
     ensures { (p : Parts) (name realm nonce : List ℕ) (accounts : Directory) (account : Account)
         → IsUnsigned p nonce name → HasAccount realm accounts name account

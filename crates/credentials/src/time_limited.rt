@@ -1,5 +1,5 @@
-//! Time-limited credentials (draft-uberti-behave-turn-rest-00, section 2.2), which a web application that shares a secret with
-//! the server gives to its users.
+//! Time-limited credentials (draft-uberti-behave-turn-rest-00, section 2.2), which a web application that shares a
+//! secret with the server gives to its users.
 
 ghost use Rattle.std.specs.Prelude.{◌≡◌, ◌∷◌, option_map, position, take};
 ghost use Rattle.std.specs.List.{before_first};
@@ -60,8 +60,8 @@ fn user_name(name: &[u8]) -> &[u8]
     }
 }
 
-/// Returns the owner of what is allocated under a name: the digest of the name of its user, which is what follows the first colon of
-/// a name with an expiry, and all of a name without one.
+/// Returns the owner of what is allocated under a name: the digest of the name of its user, which is what follows the
+/// first colon of a name with an expiry, and all of a name without one.
 /// See docs/DECISIONS.md, "How many slots a user takes".
 pub fn owner_of(name: &[u8]) -> [u8; 20]
     ensures { result ≡ owner_of name.now }
@@ -105,8 +105,8 @@ impl TimeLimited<'_> {
         self.held == Some(user)
     }
 
-    /// Returns the account of a name in a realm, if its credentials are time-limited and accepted: it hasn't expired, or the
-    /// client's allocation is its own.
+    /// Returns the account of a name in a realm, if its credentials are time-limited and accepted: it hasn't expired,
+    /// or the client's allocation is its own.
     /// See docs/DECISIONS.md, "Time-limited credentials".
     pub(crate) fn account(&self, realm: &str, name: &[u8]) -> Option<Authenticated>
         ensures { option_map account_of result ≡ limited_account realm.now (limits_of self.now) name.now }

@@ -104,7 +104,8 @@ fn side(source: &Source) -> &'static [u8]
 
 /// Returns what precedes the bytes of a datagram that came.
 pub(crate) fn datagram_front(meta: &Meta) -> ArrayVec<u8, FRONT>
-    ensures { result.items ≡ side_text meta.entry.now.from ++ 0x20 ∷ (decimal meta.entry.now.now ++ 0x20 ∷ (encode_lower meta.entry.now.tx ++ 0x20 ∷ (source_text meta.entry.now.from ++ 0x20 ∷ []))) }
+    ensures { result.items ≡ side_text meta.entry.now.from ++ 0x20 ∷ (decimal meta.entry.now.now
+        ++ 0x20 ∷ (encode_lower meta.entry.now.tx ++ 0x20 ∷ (source_text meta.entry.now.from ++ 0x20 ∷ []))) }
 {
     let mut front = ArrayVec::new();
     push_bytes(&mut front, side(&meta.from));

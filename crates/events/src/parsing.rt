@@ -247,8 +247,8 @@ fn read_line<'a>(line: &'a [u8], slots: usize, room: &mut [u8]) -> Option<Parsed
     None
 }
 
-/// Reads the event of a line, which is without its line feed, for a relay with `slots` slots. The bytes of a datagram are
-/// read over the first bytes of a room of 65,507.
+/// Reads the event of a line, which is without its line feed, for a relay with `slots` slots. The bytes of a datagram
+/// are read over the first bytes of a room of 65,507.
 ///
 /// `None` where the line is no event's.
 pub fn parse<'a>(line: &'a [u8], slots: usize, room: &mut [u8]) -> Option<Parsed<'a>>

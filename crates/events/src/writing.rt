@@ -129,8 +129,8 @@ pub fn write_answer<W: Write>(
     }
 }
 
-/// Writes the line of what comes to a relay, with its line feed. [`parse`](crate::parse) reads it as that event, if a relay
-/// can have it.
+/// Writes the line of what comes to a relay, with its line feed. [`parse`](crate::parse) reads it as that event, if a
+/// relay can have it.
 ///
 /// # Errors
 /// Where the output fails; a beginning of the line was written.

@@ -17,7 +17,8 @@ use semantics::{
 };
 use std::alloc::AllocError;
 
-/// An access to bytes: `reads` or `writes`, the register whose value points to them, their displacement and their number.
+/// An access to bytes: `reads` or `writes`, the register whose value points to them, their displacement and their
+/// number.
 #[derive(Clone, Copy)]
 pub(crate) struct Access {
     verb: &'static str,
@@ -207,8 +208,9 @@ impl Access {
         write!(note, "{base} is {known}, which is no pointer")
     }
 
-    /// Returns the place whose comparison with the end would have helped an access to the datagram: the one at which it ends. `None`
-    /// where the access begins before the headroom, where no pointer may lie as far away, or where no datagram is as long.
+    /// Returns the place whose comparison with the end would have helped an access to the datagram: the one at which it
+    /// ends. `None` where the access begins before the headroom, where no pointer may lie as far away, or where no
+    /// datagram is as long.
     fn remedy(self, state: &State) -> Option<DatagramPlace>
         ensures { IfSome result (IsRemedy state.now self.base self.displacement self.bytes) }
     {
@@ -238,7 +240,8 @@ impl Access {
         }
     }
 
-    /// Appends the bounds that an access to the datagram or the tailroom exceeds, and the comparison that would have helped.
+    /// Appends the bounds that an access to the datagram or the tailroom exceeds, and the comparison that would have
+    /// helped.
     pub(crate) fn push_bounds(self, note: &mut String, state: &State) -> Result<(), AllocError> {
         match self.pointer(state) {
             AbstractValue::Data { anchor, .. } => {

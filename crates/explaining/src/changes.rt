@@ -84,8 +84,8 @@ fn push_marks(note: &mut String, from: &State, to: &State) -> Result<(), AllocEr
     Ok(())
 }
 
-/// Appends how a state differs from one before it: registers, pointers in the stack, stack bytes that are set, and how many bytes
-/// of the datagram are proved.
+/// Appends how a state differs from one before it: registers, pointers in the stack, stack bytes that are set, and how
+/// many bytes of the datagram are proved.
 fn push_changes(note: &mut String, from: &State, to: &State) -> Result<(), AllocError> {
     push_registers(note, from, to)?;
     push_groups(note, from, to)?;
@@ -109,8 +109,8 @@ pub(crate) fn state_note(alloc: Global, state: &State) -> Result<String, AllocEr
     Ok(note)
 }
 
-/// Returns the branch of a conditional jump to the next slot by which a state leads to another one: the one that isn't taken, where
-/// that leads to the same state.
+/// Returns the branch of a conditional jump to the next slot by which a state leads to another one: the one that isn't
+/// taken, where that leads to the same state.
 fn branch_in_place(insn: Insn, here: &State, next: &State) -> Branch {
     match here.step(&insn) {
         Ok(Next::Fork { not_taken, .. }) if not_taken == Some(*next) => Branch::NotTaken,
@@ -132,7 +132,8 @@ fn branch_to(insn: Insn, here: &Pending<Interval>, next: &Pending<Interval>) -> 
     }
 }
 
-/// Returns what a step from one state to another one has changed, and at a conditional jump the branch that is followed.
+/// Returns what a step from one state to another one has changed, and at a conditional jump the branch that is
+/// followed.
 pub(crate) fn step_note(
     alloc: Global,
     insn: Insn,

@@ -27,7 +27,8 @@ impl fmt::Display for Cost {
     }
 }
 
-/// Returns what a run of a program costs at most. Each jump has to lead to an instruction ahead, and the last one has to be an exit.
+/// Returns what a run of a program costs at most. Each jump has to lead to an instruction ahead, and the last one has
+/// to be an exit.
 ///
 /// # Errors
 /// Where memory runs out.

@@ -149,7 +149,8 @@ fn print_states<W: Write>(
     }
 }
 
-/// Prints what is known at the slots of an accepted program, or the states at one of them, and returns what a run of it costs.
+/// Prints what is known at the slots of an accepted program, or the states at one of them, and returns what a run of it
+/// costs.
 fn print_accepted<W: Write>(
     alloc: Global,
     program: &Program,
@@ -238,9 +239,10 @@ fn print_explanation<W: Write>(
 
 /// Prints what the verifier knew of the program in a file, and returns whether the loader accepts it.
 ///
-/// - Of an accepted program, each instruction with the state of the first path that reached it; with a slot, each state from
-///   which a step was made there.
-/// - Of a refused one, each step of the path to the refusal with what it has changed, and then why the last one is refused.
+/// - Of an accepted program, each instruction with the state of the first path that reached it; with a slot, each state
+///   from which a step was made there.
+/// - Of a refused one, each step of the path to the refusal with what it has changed, and then why the last one is
+///   refused.
 ///
 /// # Errors
 /// Where the output can't be written, or memory runs out.

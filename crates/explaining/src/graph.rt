@@ -159,7 +159,8 @@ fn print_state<W: Write>(alloc: Global, state: &State, out: &mut W) -> Result<()
     Ok(())
 }
 
-/// Returns the state at a slot that is shown: that of the path to the refusal where it leads there, and else the first one.
+/// Returns the state at a slot that is shown: that of the path to the refusal where it leads there, and else the first
+/// one.
 fn shown_state<'a>(reached: Reached<'a>, slot: usize) -> Option<&'a Pending<Interval>> {
     match first_at(reached.path, slot) {
         Some(state) => Some(state),
@@ -243,7 +244,8 @@ fn arrow_attributes(insn: Insn, branch: Branch, is_red: bool) -> &'static str {
     }
 }
 
-/// Prints the arrow of a branch of an instruction, from its block to that at a slot. It is red where a path leads there.
+/// Prints the arrow of a branch of an instruction, from its block to that at a slot. It is red where a path leads
+/// there.
 fn print_arrow<W: Write>(
     drawing: &Drawing<'_>,
     from: (usize, Insn),
@@ -360,10 +362,10 @@ fn draw_file<W: Write>(
     }
 }
 
-/// Prints the blocks of the program in a file and its jumps, as a text in the language DOT, and returns why the loader refuses the
-/// file, `None` where it accepts it. Each block has its instructions with their slots, and before them what is known in the first state
-/// that reached it. Of a program that is refused, the path to the refusal is red, and its blocks have what is known on it. Of a file
-/// that encodes no program nothing is printed.
+/// Prints the blocks of the program in a file and its jumps, as a text in the language DOT, and returns why the loader
+/// refuses the file, `None` where it accepts it. Each block has its instructions with their slots, and before them what
+/// is known in the first state that reached it. Of a program that is refused, the path to the refusal is red, and its
+/// blocks have what is known on it. Of a file that encodes no program nothing is printed.
 ///
 /// # Errors
 /// Where the output can't be written, or memory runs out.

@@ -1,5 +1,5 @@
-//! What the verifier knew of a program: the path to a refusal, or the states that an accepted program has, as text, and the blocks
-//! of a program as a graph.
+//! What the verifier knew of a program: the path to a refusal, or the states that an accepted program has, as text, and
+//! the blocks of a program as a graph.
 #![tactic(auto)]
 
 mod access;

@@ -65,8 +65,8 @@ fn count_from(program: &Program, counts: &[usize], slot: usize) -> usize
     }
 }
 
-/// Returns the number of instructions on the longest path of a program from its first one. Jumps lead forward, so each slot needs
-/// the counts of later slots alone.
+/// Returns the number of instructions on the longest path of a program from its first one. Jumps lead forward, so each
+/// slot needs the counts of later slots alone.
 ///
 /// # Errors
 /// Where memory runs out.

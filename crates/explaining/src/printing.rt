@@ -83,7 +83,8 @@ pub(crate) fn print_line<W: Write>(
     }
 }
 
-/// Prints each step of a path: what it has changed, and the branch that is followed. The last state of the path has made none.
+/// Prints each step of a path: what it has changed, and the branch that is followed. The last state of the path has
+/// made none.
 pub(crate) fn print_steps<W: Write>(
     alloc: Global,
     program: &Program,

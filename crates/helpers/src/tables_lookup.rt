@@ -10,8 +10,8 @@ use addresses::Addr;
 use semantics::{Helpers, RecordForm, WIDE_RECORD_BYTES, address_of, is_valid, wide_record};
 use tables::{Count, LiveSlot, Uncounted};
 
-/// The helpers that look up in the slot of a client's allocation, or of a relayed address, as it is at a moment. Without an
-/// allocation that is live then they find nothing.
+/// The helpers that look up in the slot of a client's allocation, or of a relayed address, as it is at a moment.
+/// Without an allocation that is live then they find nothing.
 /// See docs/DECISIONS.md, "Lawful helpers".
 #[derive(Drop)]
 pub struct Lookup<'a> {

@@ -14,7 +14,8 @@ pub struct Bounds {
     pub hi: u64,
 }
 
-/// A test on two numbers: that a condition holds, for the branch that is taken, or that it fails, for the one that is not.
+/// A test on two numbers: that a condition holds, for the branch that is taken, or that it fails, for the one that is
+/// not.
 /// See docs/DECISIONS.md, "A refinement is of a test".
 #[derive(Clone, Copy, Debug, PartialEq, Eq)]
 pub enum Test {

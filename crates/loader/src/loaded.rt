@@ -34,7 +34,8 @@ pub fn law_limits()
     ensures weight { WEIGHT ≡ 2 ^ 32 }
 {}
 
-/// A loaded program: its bytes encode it, and every run of it exits. Only [`load`] and [`Loading`](crate::Loading) make one.
+/// A loaded program: its bytes encode it, and every run of it exits. Only [`load`] and [`Loading`](crate::Loading) make
+/// one.
 #[derive(Drop)]
 pub struct Loaded {
     pub(crate) program: Verified,
@@ -98,8 +99,8 @@ pub fn load(alloc: Global, bytes: &[u8]) -> Result<Loaded, LoadError>
     // At most 100,000 steps are made, and V17 and V19 name the slot at which they come.
     ensures verified { ComesFromWalk bytes.now result }
 
-    // Allocation failures aside, the faults of the bytes are named exactly, and so are those of the layout. Memory runs out only
-    // where the bytes are whole slots, at most as many as a program may have.
+    // Allocation failures aside, the faults of the bytes are named exactly, and so are those of the layout. Memory runs
+    // out only where the bytes are whole slots, at most as many as a program may have.
     ensures decode { (e : DecodeError) → IsRefused bytes.now e → IsUnlessMemory (Decode e) result }
     ensures whole { IfErr result (λ e. IsMemoryRefusal e → IsWhole bytes.now) }
     ensures layout { (code : List Insn) (reason : Reason) (slot : ℕ)

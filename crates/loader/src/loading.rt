@@ -103,8 +103,8 @@ impl Loading {
     /// Begins to load a program: decodes its bytes (RFC 9669, sections 3 to 5), and tests its layout.
     ///
     /// # Errors
-    /// E1 to E7 where the bytes encode no program; V1 to V4 where its layout is faulty. E8, and V19 at slot 0, where memory
-    /// runs out.
+    /// E1 to E7 where the bytes encode no program; V1 to V4 where its layout is faulty. E8, and V19 at slot 0, where
+    /// memory runs out.
     pub fn new(alloc: Global, bytes: &[u8]) -> Result<Loading, LoadError>
         ensures begun { IfOk result (λ l. Encodes l.walk.code bytes.now) }
         ensures left { IfOk result (λ l. l.left ≡ WEIGHT) }
@@ -128,7 +128,8 @@ impl Loading {
     }
 
     /// Goes on by work of the weight `slice`, or less where the verification ends. Whatever the slices are, it ends as
-    /// [`load`](crate::load) does; or it is given up, where it hasn't ended after slices of the weight [`WEIGHT`] in all.
+    /// [`load`](crate::load) does; or it is given up, where it hasn't ended after slices of the weight [`WEIGHT`] in
+    /// all.
     pub fn advance(self, slice: usize) -> LoadProgress
         ensures { IsLoadSlice self slice result }
     {

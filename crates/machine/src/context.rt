@@ -54,8 +54,8 @@ pub(crate) fn law_context(context: &Context)
 /// The numbers of the sides in the context record.
 const SIDE_NUMBERS: [u32; 2] = [0, 1];
 
-/// Returns the number of a side in the context record: 0 for a client, 1 for a peer. It is looked up, so that the compiler
-/// doesn't know its upper bytes: where it does, a store of the number becomes stores of its parts.
+/// Returns the number of a side in the context record: 0 for a client, 1 for a peer. It is looked up, so that the
+/// compiler doesn't know its upper bytes: where it does, a store of the number becomes stores of its parts.
 pub(crate) fn side_number(side: Side) -> u32
     ensures { result ≡ side_number side }
 {
@@ -89,8 +89,8 @@ pub(crate) fn lay_out_context(area: &mut [u8], context: &Context, size: usize)
     lay_out(area, size, &source, &context.tx, side_number(context.side));
 }
 
-/// Writes the context record of a datagram of `size` bytes to its place in an area, and returns it as a trace reads it: with
-/// zeros in place of the pointers.
+/// Writes the context record of a datagram of `size` bytes to its place in an area, and returns it as a trace reads it:
+/// with zeros in place of the pointers.
 pub(crate) fn traced_record(area: &mut [u8], context: &Context, size: usize) -> [u8; CONTEXT_BYTES]
     requires long { length area.old ≡ AREA_BYTES }
     requires short { size ≤ MAX_DATAGRAM }

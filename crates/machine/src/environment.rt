@@ -11,7 +11,8 @@ use crate::context::Context;
 use insn::Insn;
 use semantics::CONTEXT_BYTES;
 
-/// What a trace is given and does not change: its code, the context with its record, the helpers, and the datagram's length.
+/// What a trace is given and does not change: its code, the context with its record, the helpers, and the datagram's
+/// length.
 #[derive(Drop)]
 pub(crate) struct TraceInputs<'a, H> {
     pub code: &'a [Insn],

@@ -242,8 +242,10 @@ fn execute_step<H: Helpers>(
     requires surrounded { count bytes.old ≡ HEADROOM + given.now.length + TAILROOM }
     requires inside { HasWindowInside given.now.length state.old.plan }
     ensures result { MakesStep (traced_environment H.answers given.now) given.now.code.now insn.now
-        (state_at state.old.at.slot state.old.registers (memory_with stack.old bytes.old given.now.length) state.old.plan)
-        (state_at state.old.at.slot state.new.registers (memory_with stack.new bytes.new given.now.length) state.new.plan)
+        (state_at state.old.at.slot state.old.registers (memory_with stack.old bytes.old given.now.length)
+        state.old.plan)
+        (state_at state.old.at.slot state.new.registers (memory_with stack.new bytes.new given.now.length)
+        state.new.plan)
         result }
     ensures ahead { IfGoesTo result (GoesAhead given.now.code.now state.old.at) }
     ensures inside { HasWindowInside given.now.length state.new.plan }

@@ -211,8 +211,8 @@ impl Frame {
         }
     }
 
-    /// Starts a run with a context: the first `n` bytes of the room become the datagram, with zeros round it. Nothing else
-    /// is cleared: a run reads no byte of the stack that it has not written.
+    /// Starts a run with a context: the first `n` bytes of the room become the datagram, with zeros round it. Nothing
+    /// else is cleared: a run reads no byte of the stack that it has not written.
     pub fn start(&mut self, context: &Context, n: usize)
         requires { n ≤ MAX_DATAGRAM }
         ensures { IsStartedOver self.old self.new context.now n }

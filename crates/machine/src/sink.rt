@@ -100,7 +100,8 @@ impl Sink for Kept {
     }
 }
 
-/// An output is a sink that writes each step as a line: the slot and the instruction. It writes nothing once it has failed.
+/// An output is a sink that writes each step as a line: the slot and the instruction. It writes nothing once it has
+/// failed.
 impl<W: Write> Sink for Output<W> {
     ghost use Rattle.basics.specs.Outputs.{OutputState};
     ghost use Rattle.machine.specs.Lines.{WritesLine};

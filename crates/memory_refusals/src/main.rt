@@ -1,4 +1,5 @@
-//! Makes a call twice, and prints the size of each answer, or its refusal. A script refuses the allocations of either call.
+//! Makes a call twice, and prints the size of each answer, or its refusal. A script refuses the allocations of either
+//! call.
 #![tactic(auto)]
 
 use anyhow::{Result, bail};

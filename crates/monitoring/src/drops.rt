@@ -110,8 +110,9 @@ impl Drops {
         self.look_at_ipv6(rt);
     }
 
-    /// Returns how many datagrams the system had dropped since the server began, when that was last looked at: those for any UDP
-    /// socket of the network namespace whose buffer was full, of both families. `None` where the system didn't say.
+    /// Returns how many datagrams the system had dropped since the server began, when that was last looked at: those
+    /// for any UDP socket of the network namespace whose buffer was full, of both families. `None` where the system
+    /// didn't say.
     pub(crate) fn last(&self) -> Option<u64> {
         let all = self.ipv4?.saturating_add(self.ipv6.unwrap_or(0));
         Some(all.saturating_sub(self.before))

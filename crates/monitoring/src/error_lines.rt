@@ -41,7 +41,8 @@ fn has_room() -> bool {
     poll(&mut fds, 0) > 0 && fds[0].revents & POLLOUT != 0
 }
 
-/// Opens standard error once more, where it is a terminal, so that a write to it never waits. What others have open stays as it is.
+/// Opens standard error once more, where it is a terminal, so that a write to it never waits. What others have open
+/// stays as it is.
 fn terminal<R: Files<File = File>>(rt: &R) -> Option<File> {
     if isatty(STDERR) != 1 {
         return None;

@@ -1,4 +1,5 @@
-//! What a running server writes: its counters, metrics, log and record, how shadows compare, and lines on standard error.
+//! What a running server writes: its counters, metrics, log and record, how shadows compare, and lines on standard
+//! error.
 #![tactic(auto)]
 
 mod counters;

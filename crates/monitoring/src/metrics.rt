@@ -324,8 +324,8 @@ impl Metrics<'_> {
 }
 
 impl<'a> MetricsFile<'a> {
-    /// Returns the file at a path, with the label of its samples if they have one, and takes its memory. It is due one period
-    /// after `now`.
+    /// Returns the file at a path, with the label of its samples if they have one, and takes its memory. It is due one
+    /// period after `now`.
     ///
     /// # Errors
     /// Where memory runs out.
@@ -362,8 +362,8 @@ impl<'a> MetricsFile<'a> {
         self.is_whole = metrics.write(&mut self.text).is_ok();
     }
 
-    /// Writes the text to a new file, which then takes the name of the file: so a reader finds either the old metrics or the new
-    /// ones, whole. What is at the new file's path is removed before, since to open a pipe may take forever.
+    /// Writes the text to a new file, which then takes the name of the file: so a reader finds either the old metrics
+    /// or the new ones, whole. What is at the new file's path is removed before, since to open a pipe may take forever.
     /// See docs/DECISIONS.md, "Metrics are a file".
     fn replace<R: Files>(&mut self, rt: &R) -> io::Result<()> {
         if !self.is_whole {

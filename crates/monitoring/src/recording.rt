@@ -159,8 +159,8 @@ fn file_limit(limit: u64) -> u64 {
 }
 
 impl<'a> Recording<'a> {
-    /// Makes the file of a path, if one is given, for a recording, and takes its memory. It has at most `limit` bytes, and no more
-    /// than a file of this process may have.
+    /// Makes the file of a path, if one is given, for a recording, and takes its memory. It has at most `limit` bytes,
+    /// and no more than a file of this process may have.
     ///
     /// # Errors
     /// Where the file is there already or can't be made, and where memory runs out.

@@ -116,8 +116,8 @@ fn print_shadows<E: Write>(err: &mut E, shadows: &Shadows) {
 }
 
 impl<'a> Reports<'a> {
-    /// Returns what a server reports from a time on: its counters each so many seconds, its metrics and its log, as far as they
-    /// are wanted.
+    /// Returns what a server reports from a time on: its counters each so many seconds, its metrics and its log, as far
+    /// as they are wanted.
     ///
     /// # Errors
     /// Where memory runs out.
@@ -161,7 +161,8 @@ impl<'a> Reports<'a> {
         Faults::of(counters) != self.printed
     }
 
-    /// Prints how many receives and sends failed since that was last printed, if any did. A failure to print is ignored.
+    /// Prints how many receives and sends failed since that was last printed, if any did. A failure to print is
+    /// ignored.
     fn print_faults<E: Write>(&mut self, err: &mut E, counters: &Counters) {
         if self.has_faults(counters) {
             let faults = Faults::of(counters);
@@ -170,8 +171,8 @@ impl<'a> Reports<'a> {
         }
     }
 
-    /// Prints the line of counters, and how shadows compare, with what the system dropped when that was last looked at. A
-    /// failure to print is ignored.
+    /// Prints the line of counters, and how shadows compare, with what the system dropped when that was last looked at.
+    /// A failure to print is ignored.
     fn print_counters<E: Write>(&self, err: &mut E, of: Observed<'_>) {
         let line = CounterLine {
             counters: of.counters,
@@ -218,8 +219,9 @@ impl<'a> Reports<'a> {
         }
     }
 
-    /// Does one piece of what is due of the log, if there is one: prints some of its lines; once a period the allocations that
-    /// have ended are added, and then it is printed how many lines were left out. Returns whether there was a piece.
+    /// Does one piece of what is due of the log, if there is one: prints some of its lines; once a period the
+    /// allocations that have ended are added, and then it is printed how many lines were left out. Returns whether
+    /// there was a piece.
     pub fn tend_log<E: Write>(&mut self, err: &mut E, of: Observed<'_>, now: Duration) -> bool {
         match &mut self.log {
             Some(log) => log.tend(err, of.tables, of.moment, now),
@@ -243,8 +245,8 @@ impl<'a> Reports<'a> {
         }
     }
 
-    /// Does the first piece of the report whose turn it is: prints faults or how shadows compare, or reads what the system dropped,
-    /// after which counters are printed, or metrics are written.
+    /// Does the first piece of the report whose turn it is: prints faults or how shadows compare, or reads what the
+    /// system dropped, after which counters are printed, or metrics are written.
     fn begin_report<R: Files, E: Write>(&mut self, rt: &R, err: &mut E, of: Observed<'_>) {
         match self.report {
             Report::Faults => self.print_faults(err, of.counters),
@@ -278,8 +280,8 @@ impl<'a> Reports<'a> {
         false
     }
 
-    /// Does a piece of the report that has begun, or begins one that is due: prints faults, counters and how shadows compare,
-    /// and writes metrics. Returns whether there was one.
+    /// Does a piece of the report that has begun, or begins one that is due: prints faults, counters and how shadows
+    /// compare, and writes metrics. Returns whether there was one.
     pub fn tend<R: Files, E: Write>(
         &mut self,
         rt: &R,

@@ -35,8 +35,8 @@ const PERIOD: u64 = 1;
 /// The bytes of the header of a STUN message (RFC 8489, section 5).
 const HEADER_BYTES: usize = 20;
 
-/// The USERNAME of a request, as many of its bytes as the longest name of a user has. Displays in quotes, with escapes for quotes
-/// and for bytes that aren't printable ASCII.
+/// The USERNAME of a request, as many of its bytes as the longest name of a user has. Displays in quotes, with escapes
+/// for quotes and for bytes that aren't printable ASCII.
 #[derive(Clone, Copy)]
 struct Name {
     bytes: [u8; MAX_TEXT],
@@ -175,7 +175,8 @@ impl fmt::Display for Name {
 }
 
 impl Sender {
-    /// Returns who sent the request that is at the start of the room for datagrams. Without a USERNAME the name is empty.
+    /// Returns who sent the request that is at the start of the room for datagrams. Without a USERNAME the name is
+    /// empty.
     pub fn of(client: Addr, room: &[u8]) -> Sender {
         let value = match read(message_in(room)) {
             Ok(message) => message.value_of(USERNAME).unwrap_or(&[]),
@@ -254,8 +255,8 @@ impl fmt::Display for LogEntry {
     }
 }
 
-/// Returns why a response refuses the credentials of its request, if it does. A request without credentials, or with an old
-/// nonce, is the first of a session, and is challenged.
+/// Returns why a response refuses the credentials of its request, if it does. A request without credentials, or with an
+/// old nonce, is the first of a session, and is challenged.
 fn refusal_of(response: Response) -> Option<RefusalReason> {
     match response {
         Response::Unauthenticated(AuthError::Incomplete) => Some(RefusalReason::Incomplete),
@@ -382,7 +383,8 @@ impl ServerLog {
         }
     }
 
-    /// Returns whether there may be something to print before the next datagram comes: an allocation ends, or lines were left out.
+    /// Returns whether there may be something to print before the next datagram comes: an allocation ends, or lines
+    /// were left out.
     pub fn is_waiting(&self) -> bool {
         self.left_out > 0 || self.open.iter().any(|place| place.is_some())
     }
@@ -392,8 +394,8 @@ impl ServerLog {
         !self.entries.is_empty()
     }
 
-    /// Does one piece of what is due, and returns whether there was one: prints some lines; where a period is over, ends what the
-    /// tables don't have any more, or begins the next period.
+    /// Does one piece of what is due, and returns whether there was one: prints some lines; where a period is over,
+    /// ends what the tables don't have any more, or begins the next period.
     pub fn tend<E: Write>(
         &mut self,
         err: &mut E,

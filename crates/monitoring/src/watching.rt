@@ -70,8 +70,8 @@ impl<'a> Watch<'a> {
         }
     }
 
-    /// Writes what was recorded to the file, and prints the datagrams with which shadows do something else. A failure to print is
-    /// ignored.
+    /// Writes what was recorded to the file, and prints the datagrams with which shadows do something else. A failure
+    /// to print is ignored.
     pub fn flush<E: Write>(&mut self, err: &mut E) {
         self.recording.flush(err);
         for named in &self.named {

@@ -56,8 +56,8 @@ pub struct FileInOrder {
     pub places: Places,
 }
 
-/// Returns the encoding of a program with the same meaning as the one that bytes encode, all of whose jumps lead forward, as
-/// [`order_with_places`] puts it in order, and the places of its instructions.
+/// Returns the encoding of a program with the same meaning as the one that bytes encode, all of whose jumps lead
+/// forward, as [`order_with_places`] puts it in order, and the places of its instructions.
 ///
 /// # Errors
 /// The first fault of the bytes, the fault of the program, or `Memory`.

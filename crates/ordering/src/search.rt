@@ -222,7 +222,8 @@ impl Search {
     }
 }
 
-/// Returns a search that has placed the instructions that are reached from slot 0, in an order in which each jump leads forward.
+/// Returns a search that has placed the instructions that are reached from slot 0, in an order in which each jump leads
+/// forward.
 ///
 /// # Errors
 /// `Loop`, `Stuck`, `TooLong` or `Memory`.

@@ -52,7 +52,12 @@ impl Model for PeerFilter {
 
     ghost Value = { Filter };
 
-    ghost view = { λ f. record { ipv4 = f.ipv4.items; ipv6 = f.ipv6.items; endpoints = f.endpoints.items; clients = f.clients.items } };
+    ghost view = { λ f. record {
+      ipv4 = f.ipv4.items;
+      ipv6 = f.ipv6.items;
+      endpoints = f.endpoints.items;
+      clients = f.clients.items;
+    } };
 }
 
 /// Returns the one of two rules with the longer prefix, the later one where they have as many bits.
@@ -66,8 +71,8 @@ fn longer_of(earlier: Rule, later: Rule) -> Rule
     }
 }
 
-/// Returns the rule that decides on an address once one more rule comes last: that one, where it contains the address and
-/// its prefix is at least as long as that of the earlier one.
+/// Returns the rule that decides on an address once one more rule comes last: that one, where it contains the address
+/// and its prefix is at least as long as that of the earlier one.
 fn or_later(earlier: Option<Rule>, rule: &Rule, peer: &Addr) -> Option<Rule>
     ensures { (rules : List Rule) → earlier ≡ deciding_rule rules peer.now
         → result ≡ deciding_rule (rules ++ rule.now ∷ []) peer.now }

@@ -11,15 +11,16 @@ ghost use Rattle.peer_filter.specs.declared.rule.Loopback.{Loopback};
 ghost use Rattle.peer_filter.specs.declared.rule.Rule.{Rule};
 ghost use Rattle.peer_filter.specs.declared.rule.ServerEndpoint.{ServerEndpoint};
 
-/// States that the rule that decides on an address is the one with the longest prefix of those that contain it, the last
-/// one where several have as many bits; and that there is no decision only where no rule contains the address.
+/// States that the rule that decides on an address is the one with the longest prefix of those that contain it, the
+/// last one where several have as many bits; and that there is no decision only where no rule contains the address.
 pub fn law_longest_prefix_decides()
     ensures found { (rules : List Rule) (peer : Addr) → IsDecision rules peer (deciding_rule rules peer) }
     ensures only { (rules : List Rule) (peer : Addr) (rule : Rule)
         → DecidesOn rules peer rule → deciding_rule rules peer ≡ Some rule }
 {}
 
-/// States that a filter of some rules decides as all of these do: those for the addresses of a peer's family are enough.
+/// States that a filter of some rules decides as all of these do: those for the addresses of a peer's family are
+/// enough.
 pub fn law_rules_of_the_family_decide()
     ensures { (endpoints : List ServerEndpoint) (rules : List Rule) (peer : Addr)
         → deciding_rule (rules_for peer (filter_of endpoints rules)) peer ≡ deciding_rule rules peer }

@@ -115,12 +115,12 @@ impl Network {
     ghost use Rattle.std.specs.Prelude.{◌≡◌};
     ghost use Rattle.peer_filter.specs.Networks.{is_network_of, network_contains, prefix_bits, IsParsed};
 
-    /// Parses a network, as `192.0.2.0/24` or `2001:db8::/32`: an address, a slash and the number of bits, in one to three
-    /// decimal digits without a sign. Leading zeros count as digits: `/08` is `/8`, and `/0008` is refused.
+    /// Parses a network, as `192.0.2.0/24` or `2001:db8::/32`: an address, a slash and the number of bits, in one to
+    /// three decimal digits without a sign. Leading zeros count as digits: `/08` is `/8`, and `/0008` is refused.
     ///
     /// # Errors
-    /// `NotANetwork` for any other text, then `Bits` for more bits than an address of the family has, then `HostBits` where
-    /// a bit after the prefix is set.
+    /// `NotANetwork` for any other text, then `Bits` for more bits than an address of the family has, then `HostBits`
+    /// where a bit after the prefix is set.
     pub fn parse(text: &str) -> Result<Network, NetworkError>
         ensures { IsParsed text.now result }
     {

@@ -57,8 +57,8 @@ fn clients_at(server: &ServerAddresses, ip: Ipv4Addr) -> ServerEndpoint
     })
 }
 
-/// Returns the clients' port of any address where a server listens at all of them, and else of the one that it listens at and of
-/// the relayed one.
+/// Returns the clients' port of any address where a server listens at all of them, and else of the one that it listens
+/// at and of the relayed one.
 fn client_endpoints(server: &ServerAddresses) -> OwnEndpoints
     ensures own { IsClientPort server.now result.items }
     ensures few { length result.items ≤ 2 }
@@ -81,7 +81,8 @@ fn outside(server: &ServerAddresses, ip: Addr) -> ServerEndpoint
     ServerEndpoint::Outside { ip, first, last }
 }
 
-/// Returns the ports of an IPv4 address of a server at which no peer is; none of a loopback address, or of all addresses.
+/// Returns the ports of an IPv4 address of a server at which no peer is; none of a loopback address, or of all
+/// addresses.
 fn outside_v4(server: &ServerAddresses, ip: Ipv4Addr) -> Option<ServerEndpoint>
     ensures { IsOutsideV4 server.now ip result }
 {
@@ -92,7 +93,8 @@ fn outside_v4(server: &ServerAddresses, ip: Ipv4Addr) -> Option<ServerEndpoint>
     Some(outside(server, Addr::V4 { ip, port: 0 }))
 }
 
-/// Returns the ports of an IPv6 address of a server at which no peer is; none of a loopback address, or of all addresses.
+/// Returns the ports of an IPv6 address of a server at which no peer is; none of a loopback address, or of all
+/// addresses.
 fn outside_v6(server: &ServerAddresses, ip: Option<Ipv6Addr>) -> Option<ServerEndpoint>
     ensures { IsOutsideV6 server.now ip result }
 {
@@ -137,8 +139,8 @@ fn foreign_of(server: &ServerAddresses, rules: &[Rule]) -> ArrayVec<Rule, MAX_AL
     foreign
 }
 
-/// Returns the rules for clients: of those that hold without options, the ones for networks that the server isn't in; none where it
-/// listens at all addresses.
+/// Returns the rules for clients: of those that hold without options, the ones for networks that the server isn't in;
+/// none where it listens at all addresses.
 fn rules_for_clients(server: &ServerAddresses) -> ArrayVec<Rule, MAX_ALL_RULES>
     ensures { AreForClients server.now result.items }
 {
@@ -165,11 +167,11 @@ fn with_clients(
 }
 
 impl PeerFilter {
-    /// Makes the filter of a server: nothing is sent to the clients' port of the address that it listens at and of the relayed
-    /// one, or to that port of any address where it listens at all of them; nor to another port of an address of its own than
-    /// those at which it relays, unless it is a loopback address; nor to loopback addresses of a family, unless it listens at one;
-    /// and else the rules decide. Nothing is sent to clients at addresses that are denied without options, unless the server listens
-    /// in their network, or at all addresses.
+    /// Makes the filter of a server: nothing is sent to the clients' port of the address that it listens at and of the
+    /// relayed one, or to that port of any address where it listens at all of them; nor to another port of an address
+    /// of its own than those at which it relays, unless it is a loopback address; nor to loopback addresses of a
+    /// family, unless it listens at one; and else the rules decide. Nothing is sent to clients at addresses that are
+    /// denied without options, unless the server listens in their network, or at all addresses.
     /// See docs/DECISIONS.md, "Peers that nothing is sent to".
     ///
     /// # Errors

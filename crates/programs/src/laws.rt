@@ -17,9 +17,9 @@ ghost use Rattle.programs.specs.declared.peer.TheConstants.{PEER};
 use insn::law_bytes_encode_one_program;
 use stun::law_message_in_has_the_parts;
 
-/// States what [`CLIENT`](crate::CLIENT) promises: where it is safe, as the verifier finds, it relays a client's ChannelData,
-/// and Send indications of an IPv4 address and data, by itself, as the rules say, passes on what else begins as a STUN message
-/// does, and sends nothing for any other datagram.
+/// States what [`CLIENT`](crate::CLIENT) promises: where it is safe, as the verifier finds, it relays a client's
+/// ChannelData, and Send indications of an IPv4 address and data, by itself, as the rules say, passes on what else
+/// begins as a STUN message does, and sends nothing for any other datagram.
 pub fn law_client_serves()
     ensures { (code : List Insn) → Encodes code CLIENT.now → IsSafe code
         → (client : Addr) (tx : List ℕ) (rows : Rows) (datagram : List ℕ)
@@ -29,8 +29,8 @@ pub fn law_client_serves()
     law_message_in_has_the_parts();
 }
 
-/// States that what [`CLIENT`](crate::CLIENT) tests of a datagram, number by number, holds of exactly those datagrams whose
-/// message is a Send indication of an IPv4 address and data.
+/// States that what [`CLIENT`](crate::CLIENT) tests of a datagram, number by number, holds of exactly those datagrams
+/// whose message is a Send indication of an IPv4 address and data.
 pub fn law_client_tests_plain_sends()
     ensures only { (datagram : List ℕ) → IsDatagram datagram
         → (p : Parts) → message_in datagram ≡ Some p → is_plain_send p ≡ true → PassesTests datagram }
@@ -40,8 +40,8 @@ pub fn law_client_tests_plain_sends()
     law_message_in_has_the_parts();
 }
 
-/// States what [`PEER`](crate::PEER) promises: where it is safe, as the verifier finds, it relays each datagram of a peer by
-/// itself, as the rules say.
+/// States what [`PEER`](crate::PEER) promises: where it is safe, as the verifier finds, it relays each datagram of a
+/// peer by itself, as the rules say.
 pub fn law_peer_serves()
     ensures { (code : List Insn) → Encodes code PEER.now → IsSafe code
         → (slot : ℕ) (peer : Addr) (tx : List ℕ) (rows : Rows) (datagram : List ℕ)

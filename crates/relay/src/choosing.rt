@@ -74,7 +74,8 @@ fn route_found(found: Found) -> Route
     }
 }
 
-/// States that where another program does the same with a datagram, the relay would do the same with that program in place.
+/// States that where another program does the same with a datagram, the relay would do the same with that program in
+/// place.
 pub fn law_same_choices_are_same_steps()
     ensures { (r : RelayContents) (given : Meta) (n : ℕ) (program : List Insn)
         → SameChoiceIsSameStep r given n program }
@@ -116,7 +117,8 @@ impl Relay {
         Lookup::new(live_for(self.tables(), moment, &meta.from, &mut Uncounted))
     }
 
-    /// Runs another program of the side of a datagram over the first `n` bytes of a frame's room, with the look-ups of its step.
+    /// Runs another program of the side of a datagram over the first `n` bytes of a frame's room, with the look-ups of
+    /// its step.
     fn run_beside(
         &self,
         program: &Verified,
@@ -139,13 +141,15 @@ impl Relay {
         run_over(program, frame, helpers, &context, n)
     }
 
-    /// Returns where what another program of the side of a datagram would do with it leads, in place of the one that runs, with the
-    /// same look-ups and the same context. The datagram is the first `n` bytes of the frame's room. The relay stays as it is.
+    /// Returns where what another program of the side of a datagram would do with it leads, in place of the one that
+    /// runs, with the same look-ups and the same context. The datagram is the first `n` bytes of the frame's room. The
+    /// relay stays as it is.
     /// See docs/DECISIONS.md, "A shadow runs before the step".
     pub fn route_of(&self, program: &Verified, frame: &mut Frame, meta: &Meta, n: usize) -> Route
         requires { n ≤ MAX_DATAGRAM }
         ensures { chosen_by_route frame.new result
-            ≡ chosen_of (with_program self.now meta.entry.now.from program.now) meta.entry.now (take n (room_of frame.old)) }
+            ≡ chosen_of (with_program self.now meta.entry.now.from program.now) meta.entry.now
+            (take n (room_of frame.old)) }
     {
         if !self.serves(&meta.from) {
             return Route::Nowhere;

@@ -8,11 +8,11 @@ ghost use Rattle.relay.specs.Confinement.{SendsWhatIsPermitted};
 
 use crate::relay::Relay;
 
-/// States that two programs that are confined, whatever they are, send only what is permitted: from any state on, and over every
-/// list of events, data goes from a client to a peer only where the client's live allocation has, at that moment, a permission
-/// for the peer's IP address or a channel that is bound to exactly this peer, and is of the peer's family; and data goes from a
-/// peer only to the client of the slot that it came to, where there is, at that moment, a permission for the peer's IP address.
-/// So no program, however wrong, makes an open relay.
+/// States that two programs that are confined, whatever they are, send only what is permitted: from any state on, and
+/// over every list of events, data goes from a client to a peer only where the client's live allocation has, at that
+/// moment, a permission for the peer's IP address or a channel that is bound to exactly this peer, and is of the peer's
+/// family; and data goes from a peer only to the client of the slot that it came to, where there is, at that moment, a
+/// permission for the peer's IP address. So no program, however wrong, makes an open relay.
 pub fn law_confined_programs_send_what_is_permitted()
     ensures { (programs : Programs) (config : Config) (s : SystemState) → IfSome programs.confinement (λ confinement.
         SendsWhatIsPermitted confinement.aliases.items (by_programs programs) config s) }

@@ -72,8 +72,8 @@ fn missing_to_peer(live: &Option<LiveSlot<'_>>, destination: Option<Addr>) -> Un
     }
 }
 
-/// Returns why the program of a source sends nothing, where it does, by what is live in the slot in which helpers look up and by
-/// the end of its run.
+/// Returns why the program of a source sends nothing, where it does, by what is live in the slot in which helpers look
+/// up and by the end of its run.
 pub(crate) fn unsent_at(
     from: &Source,
     live: &Option<LiveSlot<'_>>,
@@ -110,16 +110,19 @@ pub(crate) fn reason_by(done: Disposition, grounds: Option<Grounds>) -> Option<S
     Some(reason_of(done, ruled, slot, unsent))
 }
 
-/// States what reasons are of: the slot that one names is that of the last state of the program's run, which exits there; what it
-/// says of why nothing is sent holds there; and a line with a reason is the line without it, up to its line feed, and the reason.
+/// States what reasons are of: the slot that one names is that of the last state of the program's run, which exits
+/// there; what it says of why nothing is sent holds there; and a line with a reason is the line without it, up to its
+/// line feed, and the reason.
 pub fn law_reasons_are_of_the_answers()
     ensures exit { (programs : Programs) (tx : List ℕ) (from : Source) (live : Rows) (bytes : List ℕ) (verdict : ℕ)
         → (run_for (program_for programs from) tx from live bytes).ending ≡ Exited verdict
         → exit_slot programs tx from live bytes ≡ (run_for (program_for programs from) tx from live bytes).state.slot }
-    ensures unsent { (programs : Programs) (config : Config) (now : ℕ) (tx : List ℕ) (from : Source) (rows : Rows) (bytes : List ℕ)
-        (slot : ℕ) (unsent : Unsent) (verdict : ℕ) → reason_of_datagram programs config now tx from rows bytes ≡ Program slot unsent
+    ensures unsent { (programs : Programs) (config : Config) (now : ℕ) (tx : List ℕ) (from : Source) (rows : Rows)
+        (bytes : List ℕ) (slot : ℕ) (unsent : Unsent) (verdict : ℕ)
+        → reason_of_datagram programs config now tx from rows bytes ≡ Program slot unsent
         → (run_for (program_for programs from) tx from (rows_at now rows) bytes).ending ≡ Exited verdict
-        → HoldsAtExit from (rows_at now rows) verdict (run_for (program_for programs from) tx from (rows_at now rows) bytes).state unsent }
+        → HoldsAtExit from (rows_at now rows) verdict
+        (run_for (program_for programs from) tx from (rows_at now rows) bytes).state unsent }
     ensures line { (programs : Programs) (config : Config) (s : SystemState) (e : Event) → (answer : List ℕ)
         × (answer_text false programs config s e ≡ answer ++ 10 ∷ [])
         × (answer_text true programs config s e ≡ answer ++ line_ending (Some (reason_of_event programs config s e))) }
@@ -149,8 +152,8 @@ impl Relay {
     ghost use Rattle.relay.specs.EventRuns.{run_of_event, IsTraced};
     ghost use Rattle.relay.specs.Grounds.{grounds_of_line};
 
-    /// Traces the run that the step of the event of a line makes, if it is a datagram's, and returns its side and its end. The
-    /// steps are reported to the sink, and it writes over the room.
+    /// Traces the run that the step of the event of a line makes, if it is a datagram's, and returns its side and its
+    /// end. The steps are reported to the sink, and it writes over the room.
     pub fn trace_line<S: Sink>(
         &mut self,
         line: &[u8],
@@ -170,7 +173,8 @@ impl Relay {
         }
     }
 
-    /// Finds what explains the step of the datagram of a line, if it has one, where reasons are wanted. It writes over the room.
+    /// Finds what explains the step of the datagram of a line, if it has one, where reasons are wanted. It writes over
+    /// the room.
     /// See docs/DECISIONS.md, "Why a replay answers so".
     pub(crate) fn grounds_of_line(&mut self, line: &[u8], explains: bool) -> Option<Grounds>
         ensures grounds { (config : Config) → result

@@ -60,7 +60,8 @@ fn may_go<C: Count>(
     }
 }
 
-/// Returns whether data may come from a peer: from anywhere, where programs are not confined, or where that isn't asked.
+/// Returns whether data may come from a peer: from anywhere, where programs are not confined, or where that isn't
+/// asked.
 #[inline(always)]
 fn may_come<C: Count>(
     confinement: &Option<Confinement>,
@@ -81,9 +82,9 @@ fn may_come<C: Count>(
     }
 }
 
-/// Returns the finding of what verdict 2 sends, by what is live in the slot in which helpers look up. Nothing goes to an
-/// address that isn't of the allocation's family, and where programs are confined and that is asked, nothing goes to a peer, or
-/// comes from one, that the client hasn't permitted. `keys` counts the keys that are compared.
+/// Returns the finding of what verdict 2 sends, by what is live in the slot in which helpers look up. Nothing goes to
+/// an address that isn't of the allocation's family, and where programs are confined and that is asked, nothing goes to
+/// a peer, or comes from one, that the client hasn't permitted. `keys` counts the keys that are compared.
 /// See docs/DECISIONS.md, "One family" and "Confined programs".
 #[inline(always)]
 pub(crate) fn window_found<C: Count>(
@@ -96,11 +97,13 @@ pub(crate) fn window_found<C: Count>(
 ) -> Found
     ensures sends { (r : RelayContents) → AreWellFormed (rows_at r.greatest r.rows)
         → live.now ≡ held_for from.now (rows_at r.greatest r.rows)
-        → sending_of_found r from.now result ≡ let_through (asked asks confinement.now) from.now (rows_at r.greatest r.rows)
+        → sending_of_found r from.now result
+        ≡ let_through (asked asks confinement.now) from.now (rows_at r.greatest r.rows)
         (planned_sending from.now (rows_at r.greatest r.rows) destination (window_shown r.frame)) }
     ensures disposition { (r : RelayContents) → AreWellFormed (rows_at r.greatest r.rows)
         → live.now ≡ held_for from.now (rows_at r.greatest r.rows)
-        → disposition_of_found r from.now result ≡ disposition_of_sent (asked asks confinement.now) from.now (rows_at r.greatest r.rows)
+        → disposition_of_found r from.now result
+        ≡ disposition_of_sent (asked asks confinement.now) from.now (rows_at r.greatest r.rows)
         (planned_sending from.now (rows_at r.greatest r.rows) destination (window_shown r.frame)) }
     ensures window { is_of_window result ≡ true }
     ensures room { (reply : List ℕ) → HasRoomFor result reply }

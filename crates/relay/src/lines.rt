@@ -15,8 +15,8 @@ use std::io::BufRead;
 /// A line that is longer, in bytes, is no event's.
 pub const MAX_LINE: usize = 131_200;
 
-/// Reads a line over what `line` had, without its line feed, or one byte more than the longest line has. Returns whether there
-/// was one.
+/// Reads a line over what `line` had, without its line feed, or one byte more than the longest line has. Returns
+/// whether there was one.
 /// See docs/DECISIONS.md, "Lines are read whole".
 ///
 /// # Errors

@@ -19,10 +19,11 @@ use stun::registry::{ErrorCode, law_phrases_are_short};
 pub enum StepReason {
     /// The event was a nonce, which was set.
     NonceSet,
-    /// This was done with the datagram. Where a program sends nothing and the rules would neither, it is why they wouldn't.
+    /// This was done with the datagram. Where a program sends nothing and the rules would neither, it is why they
+    /// wouldn't.
     Done(Disposition),
-    /// The program of the datagram's side sends nothing where the rules would: its run exits at this slot, and this is why it sends
-    /// nothing there.
+    /// The program of the datagram's side sends nothing where the rules would: its run exits at this slot, and this is
+    /// why it sends nothing there.
     Program { slot: usize, unsent: Unsent },
 }
 
@@ -33,8 +34,8 @@ pub enum Unsent {
     Verdict(u64),
     /// It sends, and has set no window.
     NoWindow,
-    /// It sends a window, and the slot in which it looks up has no live allocation: the client has none, or the slot that a peer's
-    /// datagram came to.
+    /// It sends a window, and the slot in which it looks up has no live allocation: the client has none, or the slot
+    /// that a peer's datagram came to.
     NoAllocation,
     /// It sends the window of a client's datagram, and has set no destination.
     NoDestination,
@@ -51,8 +52,8 @@ const LONGEST: usize = LONGEST_UNSENT + 53;
 /// Room for what ends a line: three bytes, the text of a reason, and a line feed.
 const ENDING: usize = LONGEST + 4;
 
-/// Returns the reason of a step that did this, where the rules send nothing for that reason, if they do, and the run of the
-/// program exits at a slot, and sends nothing there for this one.
+/// Returns the reason of a step that did this, where the rules send nothing for that reason, if they do, and the run of
+/// the program exits at a slot, and sends nothing there for this one.
 pub(crate) fn reason_of(
     done: Disposition,
     ruled: Option<Discard>,

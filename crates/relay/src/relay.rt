@@ -52,7 +52,8 @@ impl Model for Relay {
 
     ghost Value = { RelayContents };
 
-    ghost coded = { coded_contents configs.the_row.coded programs.the_row.coded (coded_option confinements.the_row.coded) rows.the_row.coded frames.the_row.coded };
+    ghost coded = { coded_contents configs.the_row.coded programs.the_row.coded
+        (coded_option confinements.the_row.coded) rows.the_row.coded frames.the_row.coded };
 
     ghost view = { λ r. record {
       config = r.config;
@@ -203,10 +204,10 @@ impl Relay {
         self.frame.area()
     }
 
-    /// Confines the programs to the peers that clients have permitted, or lifts that. Of what a confined program would send,
-    /// nothing is sent that goes to a peer for whose IP address the client's allocation has no permission and to which no channel
-    /// is bound, or that comes from a peer without a permission; an address that counts as another one may be permitted as that.
-    /// Nothing else changes; with the shipped programs nothing does.
+    /// Confines the programs to the peers that clients have permitted, or lifts that. Of what a confined program would
+    /// send, nothing is sent that goes to a peer for whose IP address the client's allocation has no permission and to
+    /// which no channel is bound, or that comes from a peer without a permission; an address that counts as another one
+    /// may be permitted as that. Nothing else changes; with the shipped programs nothing does.
     /// See docs/DECISIONS.md, "Confined programs".
     pub fn confine(&mut self, confinement: Option<Confinement>)
         ensures { self.new ≡ record self.old { programs = record self.old.programs { confinement = confinement } } }
@@ -214,8 +215,8 @@ impl Relay {
         self.confinement = confinement;
     }
 
-    /// Replaces the programs of the sides for which there is another one. Allocations, moments and the nonce stay as they are,
-    /// and so does what confines programs.
+    /// Replaces the programs of the sides for which there is another one. Allocations, moments and the nonce stay as
+    /// they are, and so does what confines programs.
     pub fn set_programs(&mut self, client: Option<Loaded>, peer: Option<Loaded>)
         ensures { self.new ≡ record self.old {
           programs = record self.old.programs {
@@ -256,8 +257,8 @@ impl Relay {
         Ok(())
     }
 
-    /// Sets how many seconds the system's clock, since 1970, is ahead of the moments: 0 where it is never set. Time-limited
-    /// credentials expire by that clock. Nothing else changes.
+    /// Sets how many seconds the system's clock, since 1970, is ahead of the moments: 0 where it is never set.
+    /// Time-limited credentials expire by that clock. Nothing else changes.
     /// See docs/DECISIONS.md, "Names expire by the system's clock".
     pub fn set_clock(&mut self, ahead: i64)
         ensures { self.new ≡ record self.old { config = record self.old.config { clock_ahead = ahead } } }
@@ -265,14 +266,14 @@ impl Relay {
         self.config.clock_ahead = ahead;
     }
 
-    /// Replaces the users. The allocations of a user go on where one of the new users has the same name and the same password,
-    /// at whatever index, and end otherwise, with their permissions and channels. Those of names with time-limited credentials,
-    /// which no list has, go on. Nothing else changes.
+    /// Replaces the users. The allocations of a user go on where one of the new users has the same name and the same
+    /// password, at whatever index, and end otherwise, with their permissions and channels. Those of names with
+    /// time-limited credentials, which no list has, go on. Nothing else changes.
     /// See docs/DECISIONS.md, "Users that are replaced".
     ///
     /// # Errors
-    /// Where they can't be the users of a relay ([`are_users`]): too many or too few, two of one name, or a name or a password
-    /// outside its limits. Then nothing is changed.
+    /// Where they can't be the users of a relay ([`are_users`]): too many or too few, two of one name, or a name or a
+    /// password outside its limits. Then nothing is changed.
     pub fn set_users(&mut self, users: Vec<User>) -> Result<(), RelayError>
         ensures ok { OnOk result (self.new ≡ after_users self.old users) }
         ensures valid { IsOk result ↔ IsTrue (are_users (is_some self.old.config.secret) users.items) }
@@ -288,8 +289,8 @@ impl Relay {
         Ok(())
     }
 
-    /// Replaces the secret of time-limited credentials, and the former one under which they are accepted as well, if there is one.
-    /// Nothing else changes: the allocations that were made under another secret continue.
+    /// Replaces the secret of time-limited credentials, and the former one under which they are accepted as well, if
+    /// there is one. Nothing else changes: the allocations that were made under another secret continue.
     /// See docs/DECISIONS.md, "Secrets that are replaced".
     ///
     /// # Errors
@@ -313,9 +314,9 @@ impl Relay {
         Ok(())
     }
 
-    /// Replaces the users that are revoked, each by the digest of its name ([`owner_of`](credentials::owner_of)). Nobody has their
-    /// names from now on, in the list or before a secret, and what was allocated under them ends, with its permissions and channels.
-    /// Nothing else changes.
+    /// Replaces the users that are revoked, each by the digest of its name ([`owner_of`](credentials::owner_of)).
+    /// Nobody has their names from now on, in the list or before a secret, and what was allocated under them ends, with
+    /// its permissions and channels. Nothing else changes.
     /// See docs/DECISIONS.md, "Users that are revoked".
     pub fn set_revoked(&mut self, revoked: Vec<[u8; 20]>)
         ensures { self.new ≡ after_revoked self.old revoked }
@@ -324,11 +325,12 @@ impl Relay {
         self.config.revoked = revoked;
     }
 
-    /// Decides a datagram, the first `n` bytes of [`area`](Relay::area), and returns what is to be sent and what was done with
-    /// it: the program of its side runs over it, and what the client's program passes on is answered by the rules. With the
-    /// shipped programs this is what the rules say. Whatever the programs are, at most one datagram is sent, of a bounded length,
-    /// the rows of others stay, and rows change only by requests whose credentials are accepted; and where programs are confined,
-    /// nothing goes to a peer, or comes from one, that the client hasn't permitted.
+    /// Decides a datagram, the first `n` bytes of [`area`](Relay::area), and returns what is to be sent and what was
+    /// done with it: the program of its side runs over it, and what the client's program passes on is answered by the
+    /// rules. With the shipped programs this is what the rules say. Whatever the programs are, at most one datagram is
+    /// sent, of a bounded length, the rows of others stay, and rows change only by requests whose credentials are
+    /// accepted; and where programs are confined, nothing goes to a peer, or comes from one, that the client hasn't
+    /// permitted.
     /// See docs/DECISIONS.md, "A system is a function".
     #[inline(always)]
     pub fn step(&mut self, meta: Meta, n: usize) -> Step<'_>
@@ -339,7 +341,8 @@ impl Relay {
         ensures choice { chosen_by_step (option_copied result.passed) (sending_of result.action)
             ≡ chosen_of self.old meta (datagram_at self.old n) }
         ensures rules { AreShipped self.old.programs → outcome_of self.old meta n ≡ ruled_outcome_of self.old meta n }
-        ensures harmless { IsHarmless self.old.programs self.old.config (state_of self.old) meta (datagram_at self.old n)
+        ensures harmless { IsHarmless self.old.programs self.old.config (state_of self.old) meta
+            (datagram_at self.old n)
             (sending_of result.action) }
         ensures* after { sem 𝓛 (after_step self.entry meta n) }
     {
@@ -382,8 +385,8 @@ impl Relay {
         }
     }
 
-    /// Changes all that a datagram changes, and finds what is to be sent. The shipped programs send only what is permitted, so
-    /// with them no permission is looked up for it.
+    /// Changes all that a datagram changes, and finds what is to be sent. The shipped programs send only what is
+    /// permitted, so with them no permission is looked up for it.
     #[inline(always)]
     fn decide(&mut self, meta: &Meta, n: usize) -> Decided
         requires { n ≤ MAX_DATAGRAM }
@@ -401,9 +404,9 @@ impl Relay {
         self.advance(meta, n, !self.are_shipped, &mut Uncounted)
     }
 
-    /// As [`decide`](Relay::decide), and `asks` says whether what confines the programs is asked. `keys` counts the keys that are
-    /// compared to find the slot, to relay by the rules, and to ask what is permitted. The helpers that the program calls compare
-    /// at most 7 each ([`Lookup::look_up`]), and a request's look-ups at most 9 each.
+    /// As [`decide`](Relay::decide), and `asks` says whether what confines the programs is asked. `keys` counts the
+    /// keys that are compared to find the slot, to relay by the rules, and to ask what is permitted. The helpers that
+    /// the program calls compare at most 7 each ([`Lookup::look_up`]), and a request's look-ups at most 9 each.
     #[inline(always)]
     fn advance<C: Count>(&mut self, meta: &Meta, n: usize, asks: bool, keys: &mut C) -> Decided
         requires { n ≤ MAX_DATAGRAM }
@@ -455,8 +458,8 @@ impl Relay {
         }
     }
 
-    /// Traces the run that the step of a datagram makes, the first `n` bytes of the room, and returns its end. Its steps are reported
-    /// to the sink, and it writes over the room.
+    /// Traces the run that the step of a datagram makes, the first `n` bytes of the room, and returns its end. Its
+    /// steps are reported to the sink, and it writes over the room.
     pub(crate) fn traced<S: Sink>(
         &mut self,
         meta: &Meta,

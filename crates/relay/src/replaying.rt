@@ -68,8 +68,8 @@ impl Relay {
     ghost use Rattle.events.specs.Events.{Event};
     ghost use Rattle.events.specs.Lines.{IsEvent};
 
-    /// Goes on by the event of a line, and writes the line of its answer, with the reason where `explains` says so. Returns
-    /// whether the line is an event's.
+    /// Goes on by the event of a line, and writes the line of its answer, with the reason where `explains` says so.
+    /// Returns whether the line is an event's.
     ///
     /// # Errors
     /// Where the output fails; a beginning of the line was written.
@@ -86,7 +86,8 @@ impl Relay {
         ensures same { IsSameRelay self.old self.new }
         ensures few { self.old.config.slots < 2 ^ 64 }
         ensures written { OnOk result (Appends output.old.contents output.new.contents
-            (answer_to explains self.old.programs self.old.config (state_of self.old) (event_in self.old.config.slots line.now))) }
+            (answer_to explains self.old.programs self.old.config (state_of self.old)
+            (event_in self.old.config.slots line.now))) }
         ensures cut { OnErr result (IsCut explains output.old.contents output.new.contents self.old.programs
             self.old.config (state_of self.old) (event_in self.old.config.slots line.now)) }
         ensures failed { output.new.failed ≡ is_err result }
@@ -112,15 +113,16 @@ impl Relay {
         }
     }
 
-    /// Reads events, a line each, and writes the line of each answer, and where `explains` says so, on each line why the answer
-    /// is so. With the shipped programs these are the answers of the rules. Where programs are confined, each of them sends only
-    /// what is permitted. Nothing is written after the first failure of the output.
+    /// Reads events, a line each, and writes the line of each answer, and where `explains` says so, on each line why
+    /// the answer is so. With the shipped programs these are the answers of the rules. Where programs are confined,
+    /// each of them sends only what is permitted. Nothing is written after the first failure of the output.
     /// See docs/DECISIONS.md, "A replay does not flush" and "Why a replay answers so".
     ///
     /// # Errors
-    /// `Line` at the first line that is no event's, `Read` exactly where the input fails, and `Memory` where a line doesn't fit:
-    /// the relay is as after the events before that line, and their answers were written. `Write` exactly where the output
-    /// fails: the relay is as after the event whose answer couldn't be written, of whose line a beginning was written.
+    /// `Line` at the first line that is no event's, `Read` exactly where the input fails, and `Memory` where a line
+    /// doesn't fit: the relay is as after the events before that line, and their answers were written. `Write` exactly
+    /// where the output fails: the relay is as after the event whose answer couldn't be written, of whose line a
+    /// beginning was written.
     pub fn replay<R: BufRead, W: Write>(
         &mut self,
         alloc: Global,
@@ -140,7 +142,8 @@ impl Relay {
             → StopsWriting explains input.old.remaining self.old self.new output.old.contents output.new.contents) }
         ensures read { input.new.failed ≡ is_read_failure result }
         ensures write { output.new.failed ≡ is_write_failure result }
-        ensures rules { AreShipped self.old.programs → (events : List Event) → All (IsEvent self.old.config.slots) events
+        ensures rules { AreShipped self.old.programs → (events : List Event)
+            → All (IsEvent self.old.config.slots) events
             → AnswerAlike (system_of self.old) by_rules self.old.config (state_of self.old) events }
         ensures permitted { IfSome self.old.programs.confinement (λ confinement.
             SendsWhatIsPermitted confinement.aliases.items (system_of self.old) self.old.config (state_of self.old)) }

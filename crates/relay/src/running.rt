@@ -37,7 +37,8 @@ pub(crate) fn context_for(tx: &[u8; 12], from: &Source) -> Context
 }
 
 /// Returns what the slot holds in which helpers look up, if its allocation is live at a moment: the slot of a client's
-/// allocation, or the one that a peer's datagram came to. `keys` counts the keys that are compared: at most 9, those of clients.
+/// allocation, or the one that a peer's datagram came to. `keys` counts the keys that are compared: at most 9, those of
+/// clients.
 #[inline(always)]
 pub(crate) fn live_for<'a, C: Count>(
     tables: &'a Tables,
@@ -75,14 +76,16 @@ pub(crate) fn run_over(
 ) -> Outcome
     requires { n ≤ MAX_DATAGRAM }
     ensures { HasRun (length (take n (room_of frame.old))) result frame.new
-        (run_over (environment_around (context_of context.now) (answers_of_look_up helpers.now)) program.now (take n (room_of frame.old))) }
+        (run_over (environment_around (context_of context.now) (answers_of_look_up helpers.now)) program.now
+        (take n (room_of frame.old))) }
 {
     frame.law_room();
     frame.start(context, n);
     run(program, frame, helpers)
 }
 
-/// Traces a program's run over the first `n` bytes of a frame's room, and returns its end. Its steps are reported to the sink.
+/// Traces a program's run over the first `n` bytes of a frame's room, and returns its end. Its steps are reported to
+/// the sink.
 pub(crate) fn trace_over<S: Sink>(
     program: &Verified,
     frame: &mut Frame,
@@ -95,7 +98,8 @@ pub(crate) fn trace_over<S: Sink>(
     ensures end { let environment = environment_around (context_of context.now) (answers_of_look_up helpers.now) in
         EndsWith result (run_over environment program.now (take n (room_of frame.old))) }
     ensures reported { let environment = environment_around (context_of context.now) (answers_of_look_up helpers.now) in
-        Reports S.Logs (S.log sink.old) (run_over environment program.now (take n (room_of frame.old))).path (S.log sink.new) }
+        Reports S.Logs (S.log sink.old) (run_over environment program.now (take n (room_of frame.old))).path
+        (S.log sink.new) }
 {
     frame.law_room();
     frame.start(context, n);

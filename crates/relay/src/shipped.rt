@@ -50,8 +50,8 @@ pub(crate) fn are_shipped(alloc: Global, client: &Loaded, peer: &Loaded) -> Resu
     Ok(is_program(alloc, client, CLIENT)? && is_program(alloc, peer, PEER)?)
 }
 
-/// States that with [`CLIENT`](programs::CLIENT) and [`PEER`](programs::PEER) a new relay sends, over every list of events,
-/// exactly what the rules say (RFC 8656), and comes to the same state.
+/// States that with [`CLIENT`](programs::CLIENT) and [`PEER`](programs::PEER) a new relay sends, over every list of
+/// events, exactly what the rules say (RFC 8656), and comes to the same state.
 pub fn law_shipped_programs_are_the_rules()
     ensures { (programs : Programs) → AreShipped programs
         → (config : Config) → fault config ≡ None
@@ -62,8 +62,8 @@ pub fn law_shipped_programs_are_the_rules()
     law_peer_serves();
 }
 
-/// States that with [`CLIENT`](programs::CLIENT) and [`PEER`](programs::PEER) the reason of each datagram that is served is what
-/// the rules do with it: a replay never says that a program discarded it.
+/// States that with [`CLIENT`](programs::CLIENT) and [`PEER`](programs::PEER) the reason of each datagram that is
+/// served is what the rules do with it: a replay never says that a program discarded it.
 /// See docs/DECISIONS.md, "Why a replay answers so".
 pub fn law_shipped_reasons_are_the_rules()
     ensures { (programs : Programs) → AreShipped programs

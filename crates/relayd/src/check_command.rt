@@ -34,8 +34,8 @@ fn address_of<R: Net>(rt: &R, server: &str) -> Option<SocketAddr> {
     found
 }
 
-/// Checks the server at an address, or at a name, and a port, with an allocation where a user is given. Prints what works, and
-/// returns the exit status.
+/// Checks the server at an address, or at a name, and a port, with an allocation where a user is given. Prints what
+/// works, and returns the exit status.
 pub(crate) fn check<R: Net + Clock + Print + RandomSource + AllocGlobal, E: Write>(
     rt: &R,
     err: &mut E,

@@ -99,8 +99,8 @@ fn compare_lines<'a, B: BufRead + Drop, W: Write>(
     })
 }
 
-/// Replays the events of a reader through two relays, each from the start, and prints the answers that differ, each pair with its
-/// reasons, and then how many differ.
+/// Replays the events of a reader through two relays, each from the start, and prints the answers that differ, each
+/// pair with its reasons, and then how many differ.
 /// See docs/DECISIONS.md, "Answers of two replays" and "Answers before a fault".
 fn compare_events<'a, R: Print + AllocGlobal, B: BufRead + Drop>(
     rt: &R,
@@ -128,7 +128,8 @@ fn compare_events<'a, R: Print + AllocGlobal, B: BufRead + Drop>(
     }
 }
 
-/// Replays the events of a file, or of standard input for the file `-`, through two relays, and prints the answers that differ.
+/// Replays the events of a file, or of standard input for the file `-`, through two relays, and prints the answers that
+/// differ.
 /// See docs/DECISIONS.md, "Events from standard input".
 pub(crate) fn compare_file<'a, R: Files + Input + Print + AllocGlobal>(
     rt: &R,

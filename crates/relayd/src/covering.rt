@@ -210,7 +210,8 @@ fn cover_lines<'a, B: BufRead + Drop, W: Write>(
     Ok(covered)
 }
 
-/// Replays the events of a reader, prints the answers and flushes them, and then prints to `err` what of the programs was met.
+/// Replays the events of a reader, prints the answers and flushes them, and then prints to `err` what of the programs
+/// was met.
 /// See docs/DECISIONS.md, "Answers before a fault".
 pub(crate) fn cover_events<'a, R: Print + AllocGlobal, E: Write, B: BufRead + Drop>(
     rt: &R,

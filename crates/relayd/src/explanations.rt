@@ -24,7 +24,8 @@ fn explain_to<'a, R: AllocGlobal, W: Write>(
     }
 }
 
-/// Prints what the verifier knew of a program, or of the states at one slot, with the lines of the text of a source map.
+/// Prints what the verifier knew of a program, or of the states at one slot, with the lines of the text of a source
+/// map.
 fn explain_mapped<'a, R: Print + AllocGlobal>(
     rt: &R,
     file: &[u8],
@@ -41,9 +42,9 @@ fn explain_mapped<'a, R: Print + AllocGlobal>(
     Ok(found)
 }
 
-/// Prints what the verifier knew of the program in a file, or of the states at one slot, with the lines of its source map, if one is
-/// named, and returns the exit status. Without a slot, what a run of an accepted program costs, and what its
-/// verification took, is printed to `err`.
+/// Prints what the verifier knew of the program in a file, or of the states at one slot, with the lines of its source
+/// map, if one is named, and returns the exit status. Without a slot, what a run of an accepted program costs, and what
+/// its verification took, is printed to `err`.
 fn print_explanation<'a, R: Files + Input + Print + AllocGlobal, E: Write>(
     rt: &R,
     err: &mut E,
@@ -131,8 +132,8 @@ fn refusal_line(
     }
 }
 
-/// Prints the graph of a program and, to `err`, the line of its refusal, both with the lines of the text of a source map, and returns
-/// the exit status.
+/// Prints the graph of a program and, to `err`, the line of its refusal, both with the lines of the text of a source
+/// map, and returns the exit status.
 fn print_mapped<'a, R: Print + AllocGlobal, E: Write>(
     rt: &R,
     err: &mut E,
@@ -149,8 +150,8 @@ fn print_mapped<'a, R: Print + AllocGlobal, E: Write>(
     Ok(if refusal.is_some() { REFUSED } else { 0 })
 }
 
-/// Draws the program in a file, with the lines of its source map, if one is named, prints the line of a refusal to `err`, and returns
-/// the exit status.
+/// Draws the program in a file, with the lines of its source map, if one is named, prints the line of a refusal to
+/// `err`, and returns the exit status.
 fn print_graph<'a, R: Files + Input + Print + AllocGlobal, E: Write>(
     rt: &R,
     err: &mut E,
@@ -183,8 +184,8 @@ pub(crate) fn explain<R: Files + Input + Print + AllocGlobal, E: Write>(
     status_of(err, ended)
 }
 
-/// Draws the program in a file, with the lines of its source map, if one is named, prints the line of a fault to `err`, and returns
-/// the exit status.
+/// Draws the program in a file, with the lines of its source map, if one is named, prints the line of a fault to `err`,
+/// and returns the exit status.
 pub(crate) fn graph<R: Files + Input + Print + AllocGlobal, E: Write>(
     rt: &R,
     err: &mut E,

@@ -70,8 +70,8 @@ fn ports_in(text: &str) -> Option<(u16, u16)> {
     }
 }
 
-/// Returns the first and the last port at which the addresses of a server are peers: those of `--relayed-ports`, and else the ones
-/// of its slots.
+/// Returns the first and the last port at which the addresses of a server are peers: those of `--relayed-ports`, and
+/// else the ones of its slots.
 fn relayed_ports<'a>(
     server: &ServerOptions<'a>,
     options: &Options<'_>,

@@ -1,5 +1,5 @@
-//! The program: parses the command line, and reports on a program file, explains it, draws it, puts it in order, assembles a text,
-//! replays events, serves sockets or checks a server.
+//! The program: parses the command line, and reports on a program file, explains it, draws it, puts it in order,
+//! assembles a text, replays events, serves sockets or checks a server.
 #![tactic(auto)]
 
 mod check_command;

@@ -225,8 +225,8 @@ fn setup_fault<'a>(error: SetupError, options: &Options<'a>) -> CommandError<'a>
     }
 }
 
-/// Sets up the relay that the options describe, with a nonce and relayed addresses, and confines its programs where `confined`
-/// says so. The programs' files are both read first.
+/// Sets up the relay that the options describe, with a nonce and relayed addresses, and confines its programs where
+/// `confined` says so. The programs' files are both read first.
 /// See docs/DECISIONS.md, "The first fault of a replay".
 pub(crate) fn set_up<'a, R: Files + AllocGlobal>(
     rt: &R,

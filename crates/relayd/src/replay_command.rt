@@ -109,7 +109,8 @@ pub(crate) fn replay_fault<'a>(error: ReplayError, events: &'a str) -> CommandEr
     }
 }
 
-/// Replays the events of a reader as it is asked for: the run of one event, or all answers, with what of the programs the events met.
+/// Replays the events of a reader as it is asked for: the run of one event, or all answers, with what of the programs
+/// the events met.
 fn play_as<'a, R: Print + AllocGlobal, E: Write, B: BufRead + Drop>(
     rt: &R,
     err: &mut E,

@@ -98,7 +98,8 @@ pub(crate) fn read_lines<'a, R: Files + AllocGlobal>(
     fs::read_to_string(rt, path).map_err(|error| unread(&error, path))
 }
 
-/// Prints the report on the program in a file, with the lines of its source map, if one is named, and returns the exit status.
+/// Prints the report on the program in a file, with the lines of its source map, if one is named, and returns the exit
+/// status.
 pub(crate) fn report_file<R: Files + Input + Print + AllocGlobal, E: Write>(
     rt: &R,
     err: &mut E,
@@ -110,7 +111,8 @@ pub(crate) fn report_file<R: Files + Input + Print + AllocGlobal, E: Write>(
     status_of(err, ended)
 }
 
-/// Prints the report on whether the program in a file may be loaded and, where it is refused, which command explains why.
+/// Prints the report on whether the program in a file may be loaded and, where it is refused, which command explains
+/// why.
 pub(crate) fn verify_file<R: Files + Input + Print + AllocGlobal, E: Write>(
     rt: &R,
     err: &mut E,

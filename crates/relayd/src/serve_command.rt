@@ -177,8 +177,8 @@ impl<'a> Server<'a> {
         out.flush()
     }
 
-    /// Prints how large the buffers of sockets are, where the system gives less than was asked for. A failure to print is
-    /// ignored.
+    /// Prints how large the buffers of sockets are, where the system gives less than was asked for. A failure to print
+    /// is ignored.
     fn report_buffer<E: Write>(&self, err: &mut E, wanted: i32) {
         if let Ok(bytes) = self.wire.sockets.buffer()
             && bytes < wanted
@@ -211,8 +211,8 @@ impl<'a> Server<'a> {
         self.sides.is_replacing() || self.shadows.is_replacing()
     }
 
-    /// Continues to verify programs for some time, those of shadows last, and replaces those that run where all are verified. Returns
-    /// whether there were some to verify.
+    /// Continues to verify programs for some time, those of shadows last, and replaces those that run where all are
+    /// verified. Returns whether there were some to verify.
     fn verify<R: Clock, E: Write>(&mut self, rt: &R, err: &mut E) -> bool {
         if !self.is_replacing() {
             return false;
@@ -240,8 +240,8 @@ impl<'a> Server<'a> {
         }
     }
 
-    /// Closes some sockets of clients whose allocations have ended, from a slot on. Where there may be more at later slots, that is
-    /// the next chore.
+    /// Closes some sockets of clients whose allocations have ended, from a slot on. Where there may be more at later
+    /// slots, that is the next chore.
     fn close_own_sockets<R: Clock>(&mut self, rt: &R, first: usize) {
         let now = moment(rt, &self.moments);
         let tables = self.relay.tables();
@@ -287,7 +287,8 @@ impl<'a> Server<'a> {
         }
     }
 
-    /// Notes what the response to a client's request says: who has an allocation gets a socket of its own, and it is logged.
+    /// Notes what the response to a client's request says: who has an allocation gets a socket of its own, and it is
+    /// logged.
     fn note_response(&mut self, from: &Source, response: Response, now: u64) {
         let Source::Client(client) = *from else {
             return;
@@ -330,8 +331,8 @@ impl<'a> Server<'a> {
         self.reports.tend(rt, err, of, now)
     }
 
-    /// Gives some new clients sockets of their own, which a poll reports. Returns whether there were some; without a poll there are
-    /// none.
+    /// Gives some new clients sockets of their own, which a poll reports. Returns whether there were some; without a
+    /// poll there are none.
     fn connect_clients<R: Net>(&mut self, rt: &R, poll: Option<&Poll>) -> bool {
         match poll {
             Some(poll) => self.wire.sockets.connect_wanted(rt, poll, SOCKETS),
@@ -339,8 +340,8 @@ impl<'a> Server<'a> {
         }
     }
 
-    /// Does one piece of what is due at a time, of the next kind of which something is, and notes whether there was one. New clients
-    /// get sockets of their own where a poll is there to report them.
+    /// Does one piece of what is due at a time, of the next kind of which something is, and notes whether there was
+    /// one. New clients get sockets of their own where a poll is there to report them.
     /// See docs/DECISIONS.md, "What is looked at once a second".
     fn tend<'b, R: Files + Net + Clock + AllocGlobal, E: Write>(
         &'b mut self,
@@ -386,8 +387,8 @@ impl<'a> Server<'a> {
         }
     }
 
-    /// Takes one turn at an endpoint, at a moment. Returns whether a datagram has come, or a fault. A transaction id is drawn
-    /// where the one before may have been used.
+    /// Takes one turn at an endpoint, at a moment. Returns whether a datagram has come, or a fault. A transaction id is
+    /// drawn where the one before may have been used.
     #[inline(always)]
     fn turn(&mut self, endpoint: Place, now: u64) -> bool {
         let wire = &mut self.wire;
@@ -445,8 +446,8 @@ impl<'a> Server<'a> {
         self.reports.end(rt, err, of);
     }
 
-    /// Serves an endpoint until nothing comes there, or for as many datagrams as it may have, all at one moment. Returns how many
-    /// came.
+    /// Serves an endpoint until nothing comes there, or for as many datagrams as it may have, all at one moment.
+    /// Returns how many came.
     #[inline(always)]
     fn turns(&mut self, endpoint: Place, now: u64) -> usize {
         for count in 0..TURNS {
@@ -528,7 +529,8 @@ impl<'a> Server<'a> {
 }
 
 impl Waiting {
-    /// Returns what the server of these sockets waits with. Each endpoint is ready at first, since datagrams may have come.
+    /// Returns what the server of these sockets waits with. Each endpoint is ready at first, since datagrams may have
+    /// come.
     fn new<R: Net + AllocGlobal>(
         rt: &R,
         sockets: &mut Sockets,
@@ -547,7 +549,8 @@ impl Waiting {
         })
     }
 
-    /// Waits until a socket is ready, or for a time; without a time, until a socket is ready. Keeps which sockets are reported.
+    /// Waits until a socket is ready, or for a time; without a time, until a socket is ready. Keeps which sockets are
+    /// reported.
     fn wait(&mut self, time: Option<Duration>) -> Result<(), CommandError<'static>> {
         if self.poll.poll(&mut self.events, time).is_err() {
             return Err(CommandError::Wait);

@@ -143,8 +143,8 @@ fn wire_of<'a, R: Files<File = File> + Net + RandomSource + AllocGlobal>(
     })
 }
 
-/// Returns the file that the metrics are written to, if one is given. Where processes share a port, each has its first port as a
-/// label: node_exporter takes no two samples with the same name and labels.
+/// Returns the file that the metrics are written to, if one is given. Where processes share a port, each has its first
+/// port as a label: node_exporter takes no two samples with the same name and labels.
 fn metrics_file<'a>(
     alloc: Global,
     server_options: &ServerOptions<'a>,

@@ -1,4 +1,5 @@
-//! The command `trace`: a run of the program in a file over one datagram, in a context and with an allocation that options give.
+//! The command `trace`: a run of the program in a file over one datagram, in a context and with an allocation that
+//! options give.
 
 ghost use Rattle.std.specs.Prelude.{IfOk, IfSome};
 ghost use Rattle.tables.specs.Channels.{IsChannelNumber};

@@ -23,8 +23,8 @@ pub(crate) struct NewFiles<'a> {
     pub(crate) lines: Option<&'a str>,
 }
 
-/// Writes a program to its file, its source map to another, if one is named, and prints the length of the program. Returns the exit
-/// status.
+/// Writes a program to its file, its source map to another, if one is named, and prints the length of the program.
+/// Returns the exit status.
 /// See docs/DECISIONS.md, "The output file comes last".
 fn write_files<'a, R: Files + Print + AllocGlobal>(
     rt: &R,
@@ -70,8 +70,8 @@ fn write_assembled<'a, R: Files + Input + Print + AllocGlobal>(
     }
 }
 
-/// Assembles the text in a file, writes the program and its source map, and returns the exit status. A text that is refused writes
-/// nothing.
+/// Assembles the text in a file, writes the program and its source map, and returns the exit status. A text that is
+/// refused writes nothing.
 pub(crate) fn assemble_file<R: Files + Input + Print + AllocGlobal, E: Write>(
     rt: &R,
     err: &mut E,
@@ -90,8 +90,8 @@ fn own_lines(alloc: Global, name: &str, file: &[u8]) -> Result<String, AllocErro
     }
 }
 
-/// Returns the text of the source map of the program in a file: of the one that is named, if one is, and else of its slots, if a map is
-/// to be written.
+/// Returns the text of the source map of the program in a file: of the one that is named, if one is, and else of its
+/// slots, if a map is to be written.
 fn map_text_of<'a, R: Files + AllocGlobal>(
     rt: &R,
     files: NewFiles<'a>,
@@ -118,8 +118,8 @@ fn slot_of(error: FileError) -> Option<usize> {
     }
 }
 
-/// Prints why a program is not put in order, with the line of its source where a map has it, the way round a loop, and what to do
-/// where its file is an object file, and returns the exit status.
+/// Prints why a program is not put in order, with the line of its source where a map has it, the way round a loop, and
+/// what to do where its file is an object file, and returns the exit status.
 fn refuse_order<'a, E: Write>(
     alloc: Global,
     err: &mut E,
@@ -218,8 +218,8 @@ fn put_in_order<'a, R: Files + Input + Print + AllocGlobal, E: Write>(
     }
 }
 
-/// Puts the program in a file in an order in which every jump leads forward, writes it and its source map, which is made of the one in
-/// the file `from`, and returns the exit status. A program that is refused writes nothing.
+/// Puts the program in a file in an order in which every jump leads forward, writes it and its source map, which is
+/// made of the one in the file `from`, and returns the exit status. A program that is refused writes nothing.
 pub(crate) fn reorder_file<R: Files + Input + Print + AllocGlobal, E: Write>(
     rt: &R,
     err: &mut E,

@@ -43,7 +43,8 @@ enum Successor {
 struct WatchedProgram<'a> {
     /// The file, if one is given.
     path: Option<&'a str>,
-    /// The bytes of the program that runs, if it isn't the shipped one, and those that the file had when it was last refused.
+    /// The bytes of the program that runs, if it isn't the shipped one, and those that the file had when it was last
+    /// refused.
     watched: Watched,
     /// Why the file couldn't be used when it was last looked at.
     unusable: Option<UnusableFile>,
@@ -137,8 +138,8 @@ impl<'a> WatchedProgram<'a> {
         }
     }
 
-    /// Reports that the file is refused, and keeps its bytes, so that it is reported once. Where memory ran out it is tried
-    /// again.
+    /// Reports that the file is refused, and keeps its bytes, so that it is reported once. Where memory ran out it is
+    /// tried again.
     fn refuse<E: Write>(&mut self, err: &mut E, error: LoadError, bytes: Vec<u8>) {
         let error = ProgramError::from(error);
         let is_memory = error == ProgramError::Memory;
@@ -154,7 +155,8 @@ impl<'a> WatchedProgram<'a> {
         }
     }
 
-    /// Reports that the program is given up, since it takes too long to verify, and keeps its bytes, so that it is reported once.
+    /// Reports that the program is given up, since it takes too long to verify, and keeps its bytes, so that it is
+    /// reported once.
     fn give_up<E: Write>(&mut self, err: &mut E, bytes: Vec<u8>) {
         if let Some(path) = self.path {
             let _ = writeln!(err, "cannot use {path}: it takes too long to verify");
@@ -180,8 +182,8 @@ impl<'a> WatchedProgram<'a> {
         }
     }
 
-    /// Begins to load the program of the file, where its bytes are others than those that run, are verified, and were last
-    /// refused. A file that can't be read or used changes nothing.
+    /// Begins to load the program of the file, where its bytes are others than those that run, are verified, and were
+    /// last refused. A file that can't be read or used changes nothing.
     fn look<R: Files + AllocGlobal, E: Write>(&mut self, rt: &R, err: &mut E) {
         let Some(bytes) = self.read(rt, err) else {
             return;
@@ -199,7 +201,8 @@ impl<'a> WatchedProgram<'a> {
         }
     }
 
-    /// Goes on verifying the next program by a slice, if one is being verified, and freeing what the last verification has kept.
+    /// Goes on verifying the next program by a slice, if one is being verified, and freeing what the last verification
+    /// has kept.
     fn advance<E: Write>(&mut self, err: &mut E) {
         self.free();
         match mem::replace(&mut self.successor, Successor::Nothing) {
@@ -271,8 +274,8 @@ impl<'a> Sides<'a> {
         self.peer.look(rt, err);
     }
 
-    /// Goes on verifying by a slice of each program. Where all are verified, those that are loaded replace the ones that run;
-    /// a program that is refused leaves the one that runs. Returns whether one was replaced.
+    /// Goes on verifying by a slice of each program. Where all are verified, those that are loaded replace the ones
+    /// that run; a program that is refused leaves the one that runs. Returns whether one was replaced.
     /// See docs/DECISIONS.md, "Verification in slices".
     pub fn advance<P: ProgramPair, E: Write>(&mut self, programs: &mut P, err: &mut E) -> bool {
         self.client.advance(err);

@@ -184,10 +184,10 @@ impl<'a> RereadFile<'a> {
         }
     }
 
-    /// Reads the file again. Where its bytes are others than those in use and those that were last refused, what they say
-    /// replaces what the relay has, or is refused as a whole. Either is reported, and so are those in use where they are put back
-    /// after a refusal, and a file that isn't read, once until it is. Where memory ran out the file is tried again. Returns
-    /// whether something is replaced.
+    /// Reads the file again. Where its bytes are others than those in use and those that were last refused, what they
+    /// say replaces what the relay has, or is refused as a whole. Either is reported, and so are those in use where
+    /// they are put back after a refusal, and a file that isn't read, once until it is. Where memory ran out the file
+    /// is tried again. Returns whether something is replaced.
     /// See docs/DECISIONS.md, "Users that are replaced".
     pub fn look<R: Files + AllocGlobal, E: Write>(
         &mut self,
@@ -223,8 +223,8 @@ impl<'a> RereadFile<'a> {
         };
     }
 
-    /// Sets what the relay has of the file to what its bytes say, if these are others, and reports it. Returns whether that is
-    /// done.
+    /// Sets what the relay has of the file to what its bytes say, if these are others, and reports it. Returns whether
+    /// that is done.
     fn take<E: Write>(
         &mut self,
         alloc: Global,

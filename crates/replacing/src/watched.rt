@@ -42,8 +42,8 @@ impl Watched {
         }
     }
 
-    /// Returns whether the bytes that the file has now are to be tried: they are others than those in use, and than those that
-    /// were last refused. Where the file has those in use again, the ones that were refused are forgotten.
+    /// Returns whether the bytes that the file has now are to be tried: they are others than those in use, and than
+    /// those that were last refused. Where the file has those in use again, the ones that were refused are forgotten.
     pub(crate) fn has_changed(&mut self, bytes: &[u8]) -> bool
         ensures changed { result ≡ is_other self.old bytes.now }
         ensures after { self.new ≡ looked self.old bytes.now }

@@ -4,8 +4,8 @@ use crate::source_map::SourceMap;
 use basics::decimal::number;
 use std::alloc::{AllocError, Global};
 
-/// The ending of a line of a label in a graph: DOT ends the line that is drawn at `\l`, and continues a quoted string after a
-/// backslash at the end of a line.
+/// The ending of a line of a label in a graph: DOT ends the line that is drawn at `\l`, and continues a quoted string
+/// after a backslash at the end of a line.
 const LABEL_ENDING: &str = "\\l\\";
 
 /// The ending of the line of a graph that begins the label of a block.
@@ -18,13 +18,15 @@ enum Meaning {
     Instruction(usize),
     /// It names the slot of a refusal, or of where a run is stuck: it ends in ` at ` and the slot.
     Refusal(usize),
-    /// It begins the label of a block, whose first instruction has its place even where that of the block before has the same.
+    /// It begins the label of a block, whose first instruction has its place even where that of the block before has
+    /// the same.
     Block,
     /// It names no slot.
     Other,
 }
 
-/// Splits a line of a report into its text and the ending that it has in the label of a block; the ending of others is empty.
+/// Splits a line of a report into its text and the ending that it has in the label of a block; the ending of others is
+/// empty.
 fn split_ending(line: &str) -> (&str, &str) {
     match line.strip_suffix(LABEL_ENDING) {
         Some(text) => (text, LABEL_ENDING),
@@ -69,7 +71,8 @@ fn place_of<'a>(map: &SourceMap<'a>, slot: usize) -> Option<&'a str> {
     map.line(slot).map(|line| line.place)
 }
 
-/// Appends a place. In a label, which is a quoted string of DOT, a backslash is before each `"` and each `\` of the place.
+/// Appends a place. In a label, which is a quoted string of DOT, a backslash is before each `"` and each `\` of the
+/// place.
 fn push_place(text: &mut String, place: &str, in_label: bool) -> Result<(), AllocError> {
     if !in_label {
         return text.push_str(place);
@@ -83,8 +86,9 @@ fn push_place(text: &mut String, place: &str, in_label: bool) -> Result<(), Allo
     Ok(())
 }
 
-/// Returns a report with the line of the source, `FILE:LINE`, behind each line that names a slot: once for instructions one
-/// after the other that are from one line, in a graph once in each block, and always where a program is refused, or a run is stuck.
+/// Returns a report with the line of the source, `FILE:LINE`, behind each line that names a slot: once for instructions
+/// one after the other that are from one line, in a graph once in each block, and always where a program is refused, or
+/// a run is stuck.
 ///
 /// # Errors
 /// Where memory runs out.

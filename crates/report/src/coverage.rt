@@ -6,7 +6,8 @@ use std::alloc::{AllocError, Global};
 use std::fmt::Write;
 use verifier::distance;
 
-/// How often one instruction was reached, and how often its jump was taken, if it is one; 2^64 - 1 stands for that and more.
+/// How often one instruction was reached, and how often its jump was taken, if it is one; 2^64 - 1 stands for that and
+/// more.
 #[derive(Clone, Copy, Debug, PartialEq, Eq)]
 struct Met {
     reached: u64,
@@ -90,8 +91,8 @@ impl Coverage {
         Ok(())
     }
 
-    /// Returns the text of a program, a line for each instruction, with how often it was reached, and of a jump how often it was
-    /// taken. A jump to the next instruction counts as not taken.
+    /// Returns the text of a program, a line for each instruction, with how often it was reached, and of a jump how
+    /// often it was taken. A jump to the next instruction counts as not taken.
     ///
     /// # Errors
     /// Where memory runs out.

@@ -1,5 +1,5 @@
-//! Reports on a program file: whether it may be loaded, its trace over a datagram, or its text; and source maps, by which reports
-//! name the lines of a source.
+//! Reports on a program file: whether it may be loaded, its trace over a datagram, or its text; and source maps, by
+//! which reports name the lines of a source.
 #![tactic(auto)]
 
 mod annotating;

@@ -84,8 +84,8 @@ fn report_verify<W: Write>(
     }
 }
 
-/// Decodes hexadecimal digits of either case into a frame, and starts it on that datagram, in a context. `None` stands for the empty
-/// datagram.
+/// Decodes hexadecimal digits of either case into a frame, and starts it on that datagram, in a context. `None` stands
+/// for the empty datagram.
 ///
 /// # Errors
 /// `Data` where the digits encode no datagram.
@@ -206,8 +206,8 @@ fn prepare(
     program(alloc, file)
 }
 
-/// Prints each step of a program over a started frame, and how its run ended, and returns the status: 0 for an exit, 1 where it is
-/// stuck. Afterwards the frame is not started.
+/// Prints each step of a program over a started frame, and how its run ended, and returns the status: 0 for an exit, 1
+/// where it is stuck. Afterwards the frame is not started.
 ///
 /// # Errors
 /// `Output`.

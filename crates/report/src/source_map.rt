@@ -113,7 +113,8 @@ impl<'a> SourceMap<'a> {
         *self.lines.get(slot)?
     }
 
-    /// Checks that the map may be that of a program: an instruction begins at each of its slots, the last one at the last.
+    /// Checks that the map may be that of a program: an instruction begins at each of its slots, the last one at the
+    /// last.
     ///
     /// # Errors
     /// `NoInstruction` or `TooShort`.

@@ -6,7 +6,8 @@ use clap::error::Error;
 use command_line::{line, subcommand_of};
 use std::alloc::Global;
 
-/// Returns the words of a command line, of which one with blanks, or an empty one, is in quotes. `empty` stands for no word.
+/// Returns the words of a command line, of which one with blanks, or an empty one, is in quotes. `empty` stands for no
+/// word.
 fn words_of(alloc: Global, text: &str) -> Result<Vec<&str>> {
     let mut words = Vec::new(alloc);
     let mut is_quoted = false;
@@ -55,8 +56,8 @@ fn push_found(alloc: Global, found: &mut String, text: &str, parts: &str) -> Res
     Ok(())
 }
 
-/// Returns the status of an error, and the parts of a text that it has. With status 2 it is for standard error, with 0 for standard
-/// output.
+/// Returns the status of an error, and the parts of a text that it has. With status 2 it is for standard error, with 0
+/// for standard output.
 fn error_text(alloc: Global, error: &Error, parts: &str) -> Result<String> {
     let text = format!(in alloc; "{error}")?;
     let mut found = String::new(alloc);

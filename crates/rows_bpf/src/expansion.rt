@@ -94,7 +94,8 @@ fn with_repetition(alloc: Global, text: &str) -> Result<Option<String>> {
 /// Returns a line with the texts of its names, and with each repetition written out.
 ///
 /// # Errors
-/// Where a name is unknown, a repetition has no number or no end or is too long, there are too many, or memory runs out.
+/// Where a name is unknown, a repetition has no number or no end or is too long, there are too many, or memory runs
+/// out.
 pub fn expanded(alloc: Global, names: &[Named], line: &str) -> Result<String> {
     let mut line = with_names(alloc, names, line)?;
     for _ in 0..MOST_REPETITIONS {

@@ -6,8 +6,8 @@ use anyhow::{Result, bail};
 use explaining::{Explained, explain_file};
 use std::alloc::Global;
 
-/// Explains a file, at a slot if one is given, and returns the lines that are printed. One of them says `refused` where the file is
-/// refused, and none where it is accepted.
+/// Explains a file, at a slot if one is given, and returns the lines that are printed. One of them says `refused` where
+/// the file is refused, and none where it is accepted.
 ///
 /// # Errors
 /// Where the slot is no number, the program is refused by the assembler, or memory runs out.

@@ -1,5 +1,5 @@
-//! Reads rows on standard input, one a line, each with what it expects, and compares that with what the crates that work on
-//! programs and on command lines answer.
+//! Reads rows on standard input, one a line, each with what it expects, and compares that with what the crates that
+//! work on programs and on command lines answer.
 #![tactic(auto)]
 
 mod agreement;

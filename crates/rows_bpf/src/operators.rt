@@ -103,8 +103,8 @@ fn result_of<D: Domain>(
     }
 }
 
-/// Returns what is asked of the abstract numbers of a domain: the ends of a number, whether one covers another, or the result
-/// of an operator.
+/// Returns what is asked of the abstract numbers of a domain: the ends of a number, whether one covers another, or the
+/// result of an operator.
 ///
 /// # Errors
 /// Where a number or a mnemonic is none, or memory runs out.

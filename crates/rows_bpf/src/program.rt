@@ -66,8 +66,8 @@ pub fn insn_of(alloc: Global, text: &str) -> Result<Insn> {
     }
 }
 
-/// Returns the lines of a text on one line, with a separator between them. Where the last one isn't ended by a line feed, this is
-/// said.
+/// Returns the lines of a text on one line, with a separator between them. Where the last one isn't ended by a line
+/// feed, this is said.
 ///
 /// # Errors
 /// Where memory runs out.

@@ -20,8 +20,8 @@ const GROUP: usize = 8;
 /// The index of the first group's value among those of a state, which begin with the registers.
 const FIRST_GROUP: usize = 11;
 
-/// The parts of a state that a row may name: the registers, the pointers that the stack holds, its bytes that are set, and the
-/// length of the datagram that is proved.
+/// The parts of a state that a row may name: the registers, the pointers that the stack holds, its bytes that are set,
+/// and the length of the datagram that is proved.
 static PARTS: [&str; 14] = [
     "r0", "r1", "r2", "r3", "r4", "r5", "r6", "r7", "r8", "r9", "r10", "pointers", "set", "proved",
 ];
@@ -36,8 +36,8 @@ fn place_text(alloc: Global, index: usize) -> Result<String, AllocError> {
     }
 }
 
-/// Returns the text of what is known of a value. That of a place of the datagram at a variable offset has the number of its
-/// anchor, and how many bytes are proved from there on.
+/// Returns the text of what is known of a value. That of a place of the datagram at a variable offset has the number of
+/// its anchor, and how many bytes are proved from there on.
 fn value_text(alloc: Global, value: AbstractValue<Interval>) -> Result<String, AllocError> {
     let AbstractValue::Data {
         anchor: Anchor::Made { id, proved, .. },
@@ -168,8 +168,8 @@ fn named_parts(alloc: Global, state: &State, expected: &str) -> Result<String, A
     Ok(text)
 }
 
-/// Returns the parts of a state that are named in what is expected, and then those others in which it differs from the state
-/// before it.
+/// Returns the parts of a state that are named in what is expected, and then those others in which it differs from the
+/// state before it.
 fn changed_parts(
     alloc: Global,
     before: &State,
@@ -218,7 +218,8 @@ fn branch_text(
     }
 }
 
-/// Returns what the last instruction of a list changes in a state, and in each branch; what it is refused for; or `exit`.
+/// Returns what the last instruction of a list changes in a state, and in each branch; what it is refused for; or
+/// `exit`.
 fn last_step(
     alloc: Global,
     before: &State,
@@ -299,8 +300,8 @@ pub fn stepped(alloc: Global, row: &Row<'_>) -> Result<String> {
     last_step(alloc, &before, &here, last, row.expected)
 }
 
-/// Returns the parts of the state after each instruction of a program that are named in what is expected, and `exit` for the
-/// last one.
+/// Returns the parts of the state after each instruction of a program that are named in what is expected, and `exit`
+/// for the last one.
 ///
 /// # Errors
 /// Where the program is refused or doesn't lead on, or memory runs out.

@@ -37,8 +37,8 @@ fn least_budget<D: Domain>(alloc: Global, code: &[Insn]) -> Option<usize>
     Some(enough)
 }
 
-/// Returns how many abstract steps are made over a domain, and the slot of the last one, at which a budget of one less is
-/// used up.
+/// Returns how many abstract steps are made over a domain, and the slot of the last one, at which a budget of one less
+/// is used up.
 fn steps_over<D: Domain>(alloc: Global, code: &[Insn]) -> Result<String, AllocError>
     requires { slot_count code.now ≤ MAX_SLOTS }
 {

@@ -93,7 +93,8 @@ fn read_back(alloc: Global, code: &[Insn]) -> Result<Vec<u8>, AsmError>
     assemble(alloc, text.as_str())
 }
 
-/// Assembles a text, and returns whether its program is the same by way of its own text, and by way of its instructions.
+/// Assembles a text, and returns whether its program is the same by way of its own text, and by way of its
+/// instructions.
 ///
 /// # Errors
 /// Where the text isn't in quotation marks or is refused, or memory runs out.
@@ -129,8 +130,8 @@ fn with_slot(alloc: Global, text: &str) -> Result<String, AllocError> {
     Ok(lines)
 }
 
-/// Decodes slots, and returns the text of their instructions, which is also what a trace prints of them. Their encoding is
-/// the slots, and it is decoded to the same instructions.
+/// Decodes slots, and returns the text of their instructions, which is also what a trace prints of them. Their encoding
+/// is the slots, and it is decoded to the same instructions.
 ///
 /// # Errors
 /// Where the slots are refused, or memory runs out.

@@ -18,8 +18,8 @@ fn last_parts<'a>(line: &'a str, other: &str) -> &'a str {
     rest
 }
 
-/// Traces a program over a datagram, and returns the lines that are printed: the last ones, as many as are expected. The
-/// status is 1 where the trace is stuck, and 0 where it exits.
+/// Traces a program over a datagram, and returns the lines that are printed: the last ones, as many as are expected.
+/// The status is 1 where the trace is stuck, and 0 where it exits.
 ///
 /// # Errors
 /// Where the program is refused by the assembler, or memory runs out.

@@ -1,4 +1,5 @@
-//! A server over a link in memory, of which a receive or a send fails: the events of a session, and what is sent for them.
+//! A server over a link in memory, of which a receive or a send fails: the events of a session, and what is sent for
+//! them.
 
 use crate::relays::shipped;
 use crate::wire::{Fate, Wire};
@@ -83,8 +84,8 @@ fn answers_without(
     Ok(lines)
 }
 
-/// Checks that what is sent where a receive fails is as if its event had been lost, and where a send fails, as if its answer had
-/// been sent and lost.
+/// Checks that what is sent where a receive fails is as if its event had been lost, and where a send fails, as if its
+/// answer had been sent and lost.
 fn check_failure(alloc: Global, session: &[Exchange<'_>], index: usize) -> Result<()> {
     let lost = serve_all(alloc, session, index, Fate::Lost)?;
     let unreceived = serve_all(alloc, session, index, Fate::ReceiveFails)?;
@@ -222,8 +223,8 @@ impl Pair {
         check_rows(&self.failing, &self.served, event)
     }
 
-    /// Checks that the first events of a session are answered once more, and returns the end of the allocation of slot 0, which is
-    /// counted from the greatest moment of the events that came.
+    /// Checks that the first events of a session are answered once more, and returns the end of the allocation of slot
+    /// 0, which is counted from the greatest moment of the events that came.
     pub fn end_again(&mut self, alloc: Global, session: &[Exchange<'_>]) -> Result<u64> {
         for &event in session {
             self.check_again(alloc, event)?;

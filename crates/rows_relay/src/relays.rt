@@ -17,8 +17,8 @@ use std::net::Ipv6Addr;
 /// The slots of a relay.
 const SLOTS: usize = 2;
 
-/// A relay that answers lines, one that also explains its answers, and one that takes steps; and the events that they had, with
-/// the answers.
+/// A relay that answers lines, one that also explains its answers, and one that takes steps; and the events that they
+/// had, with the answers.
 #[derive(Drop)]
 pub struct Relays {
     answering: Relay,
@@ -45,7 +45,8 @@ fn new_program(alloc: Global, row: &Row<'_>, side: &str) -> Result<Option<Loaded
     })
 }
 
-/// Returns what confines the programs of a row, if it says `confined=yes`: each `alias=A/B` is an address that counts as another.
+/// Returns what confines the programs of a row, if it says `confined=yes`: each `alias=A/B` is an address that counts
+/// as another.
 fn confinement(alloc: Global, row: &Row<'_>) -> Result<Option<Confinement>> {
     if row.get("confined").is_none() {
         return Ok(None);

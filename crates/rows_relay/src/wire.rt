@@ -1,5 +1,5 @@
-//! A link in memory, of which a receive or a send fails. It stores its calls, so that what is proved of a turn by the calls of
-//! its link holds of these runs.
+//! A link in memory, of which a receive or a send fails. It stores its calls, so that what is proved of a turn by the
+//! calls of its link holds of these runs.
 
 ghost use Rattle.std.specs.Prelude.{◌≡◌, IfOk};
 

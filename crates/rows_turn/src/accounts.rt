@@ -19,8 +19,8 @@ pub fn key_of(alloc: Global, digits: &str) -> Result<Key> {
     Ok(Key::of(user.as_bytes(), realm, password.as_bytes()))
 }
 
-/// Returns the MESSAGE-INTEGRITY after the first bytes of a message, by the formula of RFC 8489, section 14.5: the HMAC of these
-/// bytes, in which the length is that of the message up to the end of MESSAGE-INTEGRITY.
+/// Returns the MESSAGE-INTEGRITY after the first bytes of a message, by the formula of RFC 8489, section 14.5: the HMAC
+/// of these bytes, in which the length is that of the message up to the end of MESSAGE-INTEGRITY.
 pub fn integrity_over(front: &[u8], key: &[u8]) -> Result<[u8; 20]> {
     let (kind, rest) = front.split_at_checked(2).context("no type")?;
     let (_, rest) = rest.split_at_checked(2).context("no length")?;
@@ -71,7 +71,8 @@ pub fn add_users(alloc: Global, users: &mut Vec<User>, row: &Row<'_>) -> Result<
     Ok(())
 }
 
-/// Returns the message of a row: its `message`, or an Allocate request with its attributes; with the changes that it says.
+/// Returns the message of a row: its `message`, or an Allocate request with its attributes; with the changes that it
+/// says.
 fn message_of(alloc: Global, row: &Row<'_>) -> Result<Vec<u8>> {
     let mut message = match row.get("message") {
         Some(digits) => bytes(alloc, digits)?,
@@ -105,8 +106,8 @@ struct Accounts {
 }
 
 impl Accounts {
-    /// Returns what a row says: `realm`, `nonce`, each `user`, `secret`, the moment as `at`, and the user whose allocation the
-    /// client has as `holds`.
+    /// Returns what a row says: `realm`, `nonce`, each `user`, `secret`, the moment as `at`, and the user whose
+    /// allocation the client has as `holds`.
     fn of(alloc: Global, row: &Row<'_>) -> Result<Accounts> {
         let mut users = Vec::new(alloc);
         add_users(alloc, &mut users, row)?;

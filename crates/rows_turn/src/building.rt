@@ -11,7 +11,8 @@ use std::fmt::Write;
 use stun::registry::attribute::MESSAGE_INTEGRITY;
 use stun::{Builder, NoRoom, read_back};
 
-/// Returns whether a word of a row with a key is an attribute of its message: one with a capital letter or a digit first.
+/// Returns whether a word of a row with a key is an attribute of its message: one with a capital letter or a digit
+/// first.
 pub fn is_attribute(key: &str) -> bool {
     let first = key.as_bytes().first();
     let is_type = first.is_some_and(|byte| byte.is_ascii_uppercase() || byte.is_ascii_digit());

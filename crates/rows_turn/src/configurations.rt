@@ -9,8 +9,8 @@ use rows::row::{Row, bytes, count, text};
 use std::alloc::Global;
 use std::net::Ipv6Addr;
 
-/// Returns the users of a row: `user` with the password `pass` and `other` with `word` unless it says `users=none`, and those
-/// that it adds.
+/// Returns the users of a row: `user` with the password `pass` and `other` with `word` unless it says `users=none`, and
+/// those that it adds.
 fn users(alloc: Global, row: &Row<'_>) -> Result<Vec<User>> {
     let mut users = Vec::new(alloc);
     if row.get("users") != Some("none") {
@@ -50,8 +50,8 @@ fn revoked(alloc: Global, row: &Row<'_>) -> Result<Vec<[u8; 20]>> {
     Ok(owners)
 }
 
-/// Returns the configuration of a row: two slots from 203.0.113.1:49152 on, no IPv6 address, the realm `relay`, the nonce `n1`,
-/// and two users, where it doesn't say otherwise.
+/// Returns the configuration of a row: two slots from 203.0.113.1:49152 on, no IPv6 address, the realm `relay`, the
+/// nonce `n1`, and two users, where it doesn't say otherwise.
 pub fn config_of(alloc: Global, row: &Row<'_>) -> Result<Config> {
     let ip6 = match row.get("ip6") {
         Some(text) => Some(text.parse::<Ipv6Addr>()?.octets()),

@@ -60,7 +60,8 @@ fn ports(word: &str) -> Result<(u16, u16)> {
     Ok((first.parse()?, last.parse()?))
 }
 
-/// Parses an endpoint of the server: an address, or a port of every address; or an address and the ports at which it is a peer.
+/// Parses an endpoint of the server: an address, or a port of every address; or an address and the ports at which it is
+/// a peer.
 fn endpoint(word: &str) -> Result<ServerEndpoint> {
     if let Some((ip, relayed)) = word.split_once('/') {
         let (first, last) = ports(relayed)?;

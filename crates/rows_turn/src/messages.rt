@@ -49,7 +49,8 @@ fn push_attributes(alloc: Global, text: &mut String, message: &Message<'_>) -> R
     Ok(())
 }
 
-/// Returns what a message says: its type, its transaction id, its attributes, and at which byte MESSAGE-INTEGRITY begins.
+/// Returns what a message says: its type, its transaction id, its attributes, and at which byte MESSAGE-INTEGRITY
+/// begins.
 fn message_text(alloc: Global, datagram: &[u8]) -> Result<String> {
     let message = match read(datagram) {
         Ok(message) => message,

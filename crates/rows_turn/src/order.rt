@@ -224,8 +224,8 @@ impl Order {
         Ok(())
     }
 
-    /// Adds a fault, and returns the error of a request that has it alone; and what a request with it and one of those before is
-    /// answered, where that isn't the error of the earlier one.
+    /// Adds a fault, and returns the error of a request that has it alone; and what a request with it and one of those
+    /// before is answered, where that isn't the error of the earlier one.
     fn add_fault(&mut self, alloc: Global, row: &Row<'_>) -> Result<String> {
         let fault = Fault {
             name: String::from_str(alloc, row.word(0)?)?,

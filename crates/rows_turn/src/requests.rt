@@ -40,8 +40,8 @@ impl Control {
     }
 }
 
-/// Appends the attribute of a part of the credentials: what the row says, another text where it says nothing, and nothing where
-/// it says `none`. Returns the text.
+/// Appends the attribute of a part of the credentials: what the row says, another text where it says nothing, and
+/// nothing where it says `none`. Returns the text.
 fn append_part(
     alloc: Global,
     builder: &mut Builder<'_>,
@@ -101,7 +101,8 @@ fn client_of(row: &Row<'_>) -> Result<Addr> {
     address(row.get("from").unwrap_or("198.51.100.2:4000"))
 }
 
-/// Has a message answered over tables that fit a configuration, and returns the length of the reply, 0 where there is none.
+/// Has a message answered over tables that fit a configuration, and returns the length of the reply, 0 where there is
+/// none.
 fn answer_length(
     config: &Config,
     tables: &mut Tables,
@@ -163,8 +164,8 @@ fn push_reply(alloc: Global, text: &mut String, reply: &Message<'_>) -> Result<(
     Ok(())
 }
 
-/// Returns what a reply says to a request: `success` or the code of an error, and what its attributes say; and what is wrong with
-/// its type or its transaction id, if anything is.
+/// Returns what a reply says to a request: `success` or the code of an error, and what its attributes say; and what is
+/// wrong with its type or its transaction id, if anything is.
 fn reply_text(alloc: Global, row: &Row<'_>, method: Method, bytes: &[u8]) -> Result<String> {
     let reply = read(bytes)?;
     let mut text = String::new(alloc);

@@ -24,7 +24,8 @@ pub enum Answer {
     ChannelData { slot: usize, peer: Addr },
     /// The data of the Send indication is sent from the relayed address of a slot to a peer.
     Send { slot: usize, peer: Addr },
-    /// The first `count` bytes of the room for replies, where `count` is not 0, are sent to the client. They are this response.
+    /// The first `count` bytes of the room for replies, where `count` is not 0, are sent to the client. They are this
+    /// response.
     Reply { count: usize, response: Response },
 }
 

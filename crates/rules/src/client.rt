@@ -22,13 +22,13 @@ pub(crate) const SEND: MessageType = MessageType {
     class: Class::Indication,
 };
 
-/// Answers a datagram of a client over IPv4 at a moment, in seconds, by the rules: what begins as a STUN message does is
-/// answered or relayed as one, and everything else is relayed if it is ChannelData. A request may change the tables, and its
-/// reply is written over the first bytes of `out`, which has at least [`REPLY_BYTES`](control::REPLY_BYTES) bytes. The
-/// configuration has no fault, and the tables have its slots.
+/// Answers a datagram of a client over IPv4 at a moment, in seconds, by the rules: what begins as a STUN message does
+/// is answered or relayed as one, and everything else is relayed if it is ChannelData. A request may change the tables,
+/// and its reply is written over the first bytes of `out`, which has at least [`REPLY_BYTES`](control::REPLY_BYTES)
+/// bytes. The configuration has no fault, and the tables have its slots.
 ///
-/// `keys` counts the keys that are compared to relay: at most 9 for the client, and 7 for the channel or the permission. Those of a
-/// request are the affair of [`respond`], each of whose look-ups compares at most 9.
+/// `keys` counts the keys that are compared to relay: at most 9 for the client, and 7 for the channel or the
+/// permission. Those of a request are the affair of [`respond`], each of whose look-ups compares at most 9.
 pub fn answer_client<C: Count>(
     tables: &mut Tables,
     config: &Config,

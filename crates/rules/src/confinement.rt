@@ -8,7 +8,8 @@ ghost use Rattle.rules.specs.Permitted.{at_port, counted_as, holds_as, is_alias_
 use attributes::Addr;
 use tables::{Count, LiveSlot};
 
-/// An IP address that counts as another one where it is asked whether a client has permitted a peer. The ports are not looked at.
+/// An IP address that counts as another one where it is asked whether a client has permitted a peer. The ports are not
+/// looked at.
 #[derive(Clone, Copy, Debug, PartialEq, Eq)]
 pub struct Alias {
     /// The address that a program sends to, or that a peer's datagram comes from.
@@ -43,15 +44,16 @@ impl Alias {
     }
 }
 
-/// Confines programs: what they send goes only to peers that a client has permitted, and only from such peers to a client.
+/// Confines programs: what they send goes only to peers that a client has permitted, and only from such peers to a
+/// client.
 #[derive(Debug, Drop)]
 pub struct Confinement {
     /// The addresses that count as others.
     pub aliases: Vec<Alias>,
 }
 
-/// Returns whether the client of a slot has permitted data to a peer (RFC 8656, sections 11 and 12): the peer's IP address has a
-/// permission, or a channel is bound to exactly this peer.
+/// Returns whether the client of a slot has permitted data to a peer (RFC 8656, sections 11 and 12): the peer's IP
+/// address has a permission, or a channel is bound to exactly this peer.
 fn is_permitted_peer<C: Count>(live: &LiveSlot<'_>, peer: Addr, keys: &mut C) -> bool
     ensures permitted { result ≡ (is_some (permission_of peer live.now) || is_some (bound_channel peer live.now)) }
     ensures keys { C.count keys.new ≤ C.count keys.old + 14 }
@@ -121,8 +123,8 @@ fn has_permission_by_any<C: Count>(
 }
 
 impl Confinement {
-    /// Returns whether data of the client of a slot may go to a peer: the client has permitted it, or an address that it counts as.
-    /// `keys` counts the keys that are compared: at most 14 for the peer, and for each alias.
+    /// Returns whether data of the client of a slot may go to a peer: the client has permitted it, or an address that
+    /// it counts as. `keys` counts the keys that are compared: at most 14 for the peer, and for each alias.
     pub fn lets_reach<C: Count>(&self, live: &LiveSlot<'_>, peer: Addr, keys: &mut C) -> bool
         ensures permitted { result ≡ holds_as self.now.aliases.items
             (λ name. is_some (permission_of name live.now) || is_some (bound_channel name live.now)) peer }
@@ -131,10 +133,11 @@ impl Confinement {
         is_permitted_peer(live, peer, keys) || is_permitted_by_any(&self.aliases, live, &peer, keys)
     }
 
-    /// Returns whether data of a peer may go to the client of a slot: the peer's IP address has a permission, or one that it
-    /// counts as has. `keys` counts the keys that are compared: at most 7 for the peer, and for each alias.
+    /// Returns whether data of a peer may go to the client of a slot: the peer's IP address has a permission, or one
+    /// that it counts as has. `keys` counts the keys that are compared: at most 7 for the peer, and for each alias.
     pub fn lets_in<C: Count>(&self, live: &LiveSlot<'_>, peer: Addr, keys: &mut C) -> bool
-        ensures permitted { result ≡ holds_as self.now.aliases.items (λ name. is_some (permission_of name live.now)) peer }
+        ensures permitted { result ≡ holds_as self.now.aliases.items
+            (λ name. is_some (permission_of name live.now)) peer }
         ensures keys { C.count keys.new ≤ C.count keys.old + 7 * (1 + length self.now.aliases.items) }
     {
         live.permitted(peer, keys) || has_permission_by_any(&self.aliases, live, &peer, keys)

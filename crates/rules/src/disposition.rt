@@ -25,11 +25,11 @@ pub enum Discard {
     NoPermission,
     /// The peer's address isn't of the allocation's family.
     OtherFamily,
-    /// What would carry the peer's data is longer than a datagram may be. No step reports this, since a peer's datagram is decided
-    /// by its program; [`discard_by_rules`](crate::discard_by_rules) finds it.
+    /// What would carry the peer's data is longer than a datagram may be. No step reports this, since a peer's datagram
+    /// is decided by its program; [`discard_by_rules`](crate::discard_by_rules) finds it.
     TooLong,
-    /// The program of its side would send it, but is confined: the client hasn't permitted the peer that it would go to, or that
-    /// it comes from.
+    /// The program of its side would send it, but is confined: the client hasn't permitted the peer that it would go
+    /// to, or that it comes from.
     Confined,
 }
 

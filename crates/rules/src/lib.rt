@@ -1,5 +1,5 @@
-//! The rules: what a datagram of a client is answered (RFC 8489, RFC 8656). Requests are answered, and ChannelData and Send
-//! indications relayed. And why nothing is sent for a datagram of either side.
+//! The rules: what a datagram of a client is answered (RFC 8489, RFC 8656). Requests are answered, and ChannelData and
+//! Send indications relayed. And why nothing is sent for a datagram of either side.
 #![tactic(auto)]
 
 mod amplification;

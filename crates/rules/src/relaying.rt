@@ -26,8 +26,8 @@ pub(crate) fn begins_as_stun(datagram: &[u8]) -> bool
     }
 }
 
-/// Relays ChannelData: its data goes to the peer that its number is bound to (RFC 8656, section 12.6). `keys` counts the keys that
-/// are compared: at most 9 for the client, and 7 for the channel.
+/// Relays ChannelData: its data goes to the peer that its number is bound to (RFC 8656, section 12.6). `keys` counts
+/// the keys that are compared: at most 9 for the client, and 7 for the channel.
 pub(crate) fn channel_data<C: Count>(
     tables: &Tables,
     moment: u64,
@@ -37,7 +37,8 @@ pub(crate) fn channel_data<C: Count>(
 ) -> Answer
     ensures sends { (reply : List ℕ) → sending_of_answer client datagram.now reply result
         ≡ channel_data_from client (rows_at moment tables.now) datagram.now }
-    ensures disposition { disposition_of result ≡ relayed_if (channel_data_test client (rows_at moment tables.now) datagram.now) }
+    ensures disposition { disposition_of result
+        ≡ relayed_if (channel_data_test client (rows_at moment tables.now) datagram.now) }
     ensures room { (reply : List ℕ) → LiesInRoom result reply }
     ensures keys { C.count keys.new ≤ C.count keys.old + 16 }
 {
@@ -60,8 +61,8 @@ pub(crate) fn channel_data<C: Count>(
     }
 }
 
-/// Relays a Send indication: its data goes to its address, if that has a permission (RFC 8656, section 11.2). `keys` counts the keys
-/// that are compared: at most 9 for the client, and 7 for the permission.
+/// Relays a Send indication: its data goes to its address, if that has a permission (RFC 8656, section 11.2). `keys`
+/// counts the keys that are compared: at most 9 for the client, and 7 for the permission.
 pub(crate) fn send<C: Count>(
     tables: &Tables,
     moment: u64,
@@ -71,7 +72,8 @@ pub(crate) fn send<C: Count>(
 ) -> Answer
     ensures sends { (datagram reply : List ℕ) → message_in datagram ≡ Some message.now
         → sending_of_answer client datagram reply result ≡ send_from client (rows_at moment tables.now) message.now }
-    ensures disposition { disposition_of result ≡ relayed_if (send_test client (rows_at moment tables.now) message.now) }
+    ensures disposition { disposition_of result
+        ≡ relayed_if (send_test client (rows_at moment tables.now) message.now) }
     ensures room { (reply : List ℕ) → LiesInRoom result reply }
     ensures keys { C.count keys.new ≤ C.count keys.old + 16 }
 {

@@ -154,7 +154,8 @@ pub fn worked_context(side: Side) -> Context {
     }
 }
 
-/// Returns the side and the source of a context: the client, the peer, that peer at another port, or an address of IPv6.
+/// Returns the side and the source of a context: the client, the peer, that peer at another port, or an address of
+/// IPv6.
 fn source(random: &mut Random) -> (Side, Addr) {
     let (ip, port) = ([192, 0, 2, 1], 5001);
     match random.below(6) {

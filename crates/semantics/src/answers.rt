@@ -16,8 +16,8 @@ pub trait Helpers {
     /// 0x4FFF, and helpers 1 and 6 give a wide address record.
     ghost lawful: { (h : Self) → IsLawful (answers h) };
 
-    /// Returns the answer of the helper `id` to a number and a wide address record: a number and a wide address record, of
-    /// which helper 1 uses the first eight bytes. The records that helpers 2, 3, 7 and 8 give are not used.
+    /// Returns the answer of the helper `id` to a number and a wide address record: a number and a wide address record,
+    /// of which helper 1 uses the first eight bytes. The records that helpers 2, 3, 7 and 8 give are not used.
     fn answer(&self, id: u8, number: u64, address: [u8; 20]) -> (u64, [u8; 20])
         ensures { result ≡ answers self.now id number address };
 }

@@ -44,8 +44,8 @@ pub enum Effect {
         group: usize,
         pointer: Value,
     },
-    /// Asks a helper that looks up. Its answer is written to `r0`, and the record of it to the room `out` in the stack, if
-    /// there is one; `r1` to `r5` hold nothing afterwards. Goes on to the next instruction.
+    /// Asks a helper that looks up. Its answer is written to `r0`, and the record of it to the room `out` in the stack,
+    /// if there is one; `r1` to `r5` hold nothing afterwards. Goes on to the next instruction.
     Ask {
         question: Question,
         out: Option<Room>,

@@ -42,8 +42,8 @@ impl RecordForm {
     }
 }
 
-/// A helper, and the form of its address records. The first three look up channels and permissions; the others act on the
-/// plan.
+/// A helper, and the form of its address records. The first three look up channels and permissions; the others act on
+/// the plan.
 #[derive(Clone, Copy, Debug, PartialEq, Eq)]
 pub enum Helper {
     /// The peer that a channel is bound to.
@@ -200,8 +200,8 @@ pub struct Inputs {
     pub out: Option<Room>,
 }
 
-/// Returns the index, among the stack cells, of the `n` bytes that a pointer points to, or `None` where they don't lie in
-/// the stack.
+/// Returns the index, among the stack cells, of the `n` bytes that a pointer points to, or `None` where they don't lie
+/// in the stack.
 #[tactic(auto, using(crate::specs::laws::Access::index_short))]
 pub(crate) fn stack_index(pointer: Value, n: usize) -> Option<usize>
     requires { n ≤ STACK_BYTES }
@@ -243,8 +243,8 @@ pub fn is_valid(form: RecordForm, address: &[u8; WIDE_RECORD_BYTES]) -> bool
     address[0] == 0 && has_valid_family(form, address)
 }
 
-/// Returns whether a wide record is of a family that a form has: of IPv4, followed by zeros after the address, or, if the
-/// form is wide, of IPv6.
+/// Returns whether a wide record is of a family that a form has: of IPv4, followed by zeros after the address, or, if
+/// the form is wide, of IPv6.
 fn has_valid_family(form: RecordForm, address: &[u8; WIDE_RECORD_BYTES]) -> bool
     ensures { result ≡ has_valid_family form address.now }
 {

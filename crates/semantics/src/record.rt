@@ -61,8 +61,8 @@ fn ipv4_of(bytes: &[u8; WIDE_RECORD_BYTES]) -> [u8; 4]
     ip
 }
 
-/// Returns the IPv6 address in a wide record. Its last byte is copied apart, so that the eight before it, which stand where an
-/// IPv4 address has nothing, are moved as one word.
+/// Returns the IPv6 address in a wide record. Its last byte is copied apart, so that the eight before it, which stand
+/// where an IPv4 address has nothing, are moved as one word.
 fn ipv6_of(bytes: &[u8; WIDE_RECORD_BYTES]) -> [u8; 16]
     ensures { result ≡ drop 4 bytes.now }
 {

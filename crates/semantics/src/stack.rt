@@ -9,8 +9,8 @@ use crate::reason::Reason;
 use crate::storing::put_cells;
 use crate::value::Value;
 
-/// The stack: 512 cells, and for each aligned group of eight of them the pointer that it holds in their place. The first cell
-/// is at place -512. The cells of a group that holds a pointer hold nothing.
+/// The stack: 512 cells, and for each aligned group of eight of them the pointer that it holds in their place. The
+/// first cell is at place -512. The cells of a group that holds a pointer hold nothing.
 /// See docs/DECISIONS.md, "Pointers beside the cells".
 #[derive(Clone, Copy, Debug, PartialEq, Eq)]
 pub struct StackMemory {

@@ -15,8 +15,8 @@ use std::mem;
 /// How many datagrams are received ahead at most, and how many an endpoint may have before the others get their turn.
 pub const TURNS: usize = 64;
 
-/// The room for what is received ahead: one datagram of the greatest length, and 64 of 2,048 bytes, which are longer than a frame
-/// of Ethernet.
+/// The room for what is received ahead: one datagram of the greatest length, and 64 of 2,048 bytes, which are longer
+/// than a frame of Ethernet.
 pub const ROOM: usize = MAX_DATAGRAM + TURNS * 2_048;
 
 /// The length and the source of a datagram, or nothing where none has come.
@@ -65,10 +65,12 @@ impl Model for Ahead {
 
     ghost view = { λ a. waiting_in a.bytes.items a.datagrams.items a.count a.then };
 
-    ghost invariant = { λ a. IsAhead (length a.bytes.items) (vec_capacity a.datagrams) a.datagrams.items a.count a.end };
+    ghost invariant = { λ a. IsAhead (length a.bytes.items)
+        (vec_capacity a.datagrams) a.datagrams.items a.count a.end };
 }
 
-/// Receives a datagram at an endpoint, if one has come, and writes its bytes into room for the longest one, from a start on.
+/// Receives a datagram at an endpoint, if one has come, and writes its bytes into room for the longest one, from a
+/// start on.
 #[inline(always)]
 fn receive_at<L: Link>(
     link: &mut L,
@@ -78,7 +80,8 @@ fn receive_at<L: Link>(
 ) -> Result<Receipt, LinkFault>
     requires { start + MAX_DATAGRAM ≤ length bytes.old }
     ensures front { take start bytes.new ≡ take start bytes.old }
-    ensures reported { HasReported (L.calls link.old) (L.calls link.new) (Received endpoint (take MAX_DATAGRAM (drop start bytes.new)) result ∷ []) }
+    ensures reported { HasReported (L.calls link.old) (L.calls link.new)
+        (Received endpoint (take MAX_DATAGRAM (drop start bytes.new)) result ∷ []) }
 {
     link.receive(endpoint, &mut bytes[start..start + MAX_DATAGRAM])
 }
@@ -143,7 +146,8 @@ impl Ahead {
         self.end = 0;
     }
 
-    /// Makes one more receive at an endpoint, if another one is to be made and there is room. Returns whether a datagram came.
+    /// Makes one more receive at an endpoint, if another one is to be made and there is room. Returns whether a
+    /// datagram came.
     fn receive_one<L: Link>(&mut self, link: &mut L, endpoint: Place) -> bool
         ensures one { HasReceivedOne endpoint (L.calls link.old) (L.calls link.new) self.old self.new result }
         ensures more { length self.new ≤ length self.old + 1 }
@@ -172,8 +176,8 @@ impl Ahead {
         }
     }
 
-    /// Receives at an endpoint until nothing comes, a receive fails, or there is no room for another datagram. Where something
-    /// waits already, no receive is made.
+    /// Receives at an endpoint until nothing comes, a receive fails, or there is no room for another datagram. Where
+    /// something waits already, no receive is made.
     pub fn fill<L: Link>(&mut self, link: &mut L, endpoint: Place)
         ensures filled { HasFilled endpoint (L.calls link.old) (L.calls link.new) self.old self.new }
         ensures few { self.old ≡ [] → length self.new ≤ 64 }
@@ -189,8 +193,8 @@ impl Ahead {
         }
     }
 
-    /// Receives a datagram, if one has come: the first one that waits, or, where nothing waits, one of the link at an endpoint.
-    /// Its bytes are written over the first of `into`.
+    /// Receives a datagram, if one has come: the first one that waits, or, where nothing waits, one of the link at an
+    /// endpoint. Its bytes are written over the first of `into`.
     ///
     /// # Errors
     /// Where a receive failed, or the datagram that waits is longer than `into`.

@@ -47,8 +47,8 @@ pub trait Work {
         ensures { HasReported (asked self.old) (asked self.new) (record { duty = duty; done = result } ∷ []) };
 }
 
-/// Does one piece of the first kind, in turn after the last one, of which something is due, and returns that kind. Each kind is
-/// asked once at most, so what is due is done after four other pieces at most.
+/// Does one piece of the first kind, in turn after the last one, of which something is due, and returns that kind. Each
+/// kind is asked once at most, so what is due is done after four other pieces at most.
 pub fn do_next<W: Work>(work: &mut W, last: Duty) -> Option<Duty>
     ensures { HasDoneNext last (W.asked work.old) (W.asked work.new) result }
 {

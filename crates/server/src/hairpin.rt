@@ -3,8 +3,9 @@
 use attributes::{Addr, law_is_address};
 use rules::at_port;
 
-/// The relayed IP address of a family, and the one that the sockets of the slots are bound to, where these differ: as behind a NAT,
-/// which may not send back what a client sends to the relayed address of another one (RFC 4787, section 6). The ports are the same.
+/// The relayed IP address of a family, and the one that the sockets of the slots are bound to, where these differ: as
+/// behind a NAT, which may not send back what a client sends to the relayed address of another one (RFC 4787, section
+/// 6). The ports are the same.
 /// See docs/DECISIONS.md, "Data between two clients of one server".
 #[derive(Clone, Copy, Debug, PartialEq, Eq)]
 pub struct Hairpin {
@@ -43,8 +44,8 @@ impl Hairpin {
         }
     }
 
-    /// Returns where data that came from an address is from: where that is the address of a slot's socket, from the slot's relayed
-    /// address.
+    /// Returns where data that came from an address is from: where that is the address of a slot's socket, from the
+    /// slot's relayed address.
     #[inline(always)]
     pub fn inward(&self, from: Addr) -> Addr
         ensures { result ≡ inward self.now from }

@@ -6,13 +6,14 @@ ghost use Rattle.server.specs.Duties.{IsDoneInTurn};
 ghost use Rattle.server.specs.Rounds.{IsFair};
 ghost use Rattle.server.specs.declared.schedule.Status.{Status};
 
-/// States that rounds are fair: in one round no endpoint has more than one turn, and each endpoint that is ready or reported
-/// has one; so no endpoint has more than two from any moment of a round to any moment of the next.
+/// States that rounds are fair: in one round no endpoint has more than one turn, and each endpoint that is ready or
+/// reported has one; so no endpoint has more than two from any moment of a round to any moment of the next.
 pub fn law_rounds_are_fair()
     ensures { (endpoints : List Status) → IsFair endpoints }
 {}
 
-/// States that what is due of a kind of work is done at the latest when its turn comes, after four pieces of other kinds at most.
+/// States that what is due of a kind of work is done at the latest when its turn comes, after four pieces of other
+/// kinds at most.
 pub fn law_each_duty_has_its_turn()
     ensures { IsDoneInTurn }
 {}

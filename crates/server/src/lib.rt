@@ -1,5 +1,5 @@
-//! A server without sockets: one turn, which receives, steps the relay and sends; whose turn it is, what is received ahead, what is due
-//! when, and what is counted.
+//! A server without sockets: one turn, which receives, steps the relay and sends; whose turn it is, what is received
+//! ahead, what is due when, and what is counted.
 #![tactic(auto)]
 
 mod ahead;

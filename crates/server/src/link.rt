@@ -23,8 +23,8 @@ pub trait Link {
     /// The calls so far, of a link that reports them; `None` of one that doesn't, or that has stopped for good.
     ghost calls: { Self → Option (List Call) } = { λ _. None };
 
-    /// Receives a datagram at an endpoint, if one has come: its length and the address that it came from. Its bytes are written
-    /// over the first of `into`.
+    /// Receives a datagram at an endpoint, if one has come: its length and the address that it came from. Its bytes are
+    /// written over the first of `into`.
     ///
     /// # Errors
     /// Where the receive fails.

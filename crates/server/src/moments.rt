@@ -31,7 +31,8 @@ impl Moments {
         Moments { start, elapsed }
     }
 
-    /// Returns the moment at which the clock that isn't set shows `elapsed`: whole seconds since 1970, never before the start.
+    /// Returns the moment at which the clock that isn't set shows `elapsed`: whole seconds since 1970, never before the
+    /// start.
     pub fn at(&self, elapsed: Duration) -> u64
         ensures { result ≡ second_at self.now elapsed }
     {
@@ -39,8 +40,8 @@ impl Moments {
         self.start.saturating_add(since).as_secs()
     }
 
-    /// Returns how many seconds the system's clock is ahead, which shows `system` since 1970 when the one that isn't set shows
-    /// `elapsed`; below zero where it is behind.
+    /// Returns how many seconds the system's clock is ahead, which shows `system` since 1970 when the one that isn't
+    /// set shows `elapsed`; below zero where it is behind.
     pub fn ahead(&self, system: Duration, elapsed: Duration) -> i64
         ensures { IsSecondsAhead (seconds_of system) (second_at self.now elapsed) result }
     {
@@ -65,8 +66,8 @@ impl ClockOffset {
         ClockOffset { ahead: 0 }
     }
 
-    /// Takes how many seconds the system's clock is ahead now. Returns whether it was set: that differs by more than a second from
-    /// what it was before, which is kept otherwise.
+    /// Takes how many seconds the system's clock is ahead now. Returns whether it was set: that differs by more than a
+    /// second from what it was before, which is kept otherwise.
     pub fn update(&mut self, ahead: i64) -> bool
         ensures set { result ≡ is_set self.old.ahead ahead }
         ensures after { self.new.ahead ≡ offset_after self.old.ahead ahead }

@@ -8,7 +8,8 @@ ghost use Rattle.semantics.specs.declared.limits.TheConstants.{MAX_DATAGRAM};
 use events::{Meta, Source};
 use relay::{Relay, Step};
 
-/// What keeps the datagrams that come, as the record of a server, or compares what the relay does with them, as a shadow.
+/// What keeps the datagrams that come, as the record of a server, or compares what the relay does with them, as a
+/// shadow.
 pub trait Recorder {
     /// The events so far, of a recorder that reports them; `None` of one that doesn't, or that has stopped for good.
     ghost events: { Self → Option (List Event) } = { λ _. None };
@@ -17,7 +18,8 @@ pub trait Recorder {
     fn record(&mut self, meta: &Meta, datagram: &[u8])
         ensures { HasReported (events self.old) (events self.new) (Datagram meta.entry.now datagram.now ∷ []) };
 
-    /// Sees a datagram that has come, the first `n` bytes of the relay's room, before its step. The relay stays as it is.
+    /// Sees a datagram that has come, the first `n` bytes of the relay's room, before its step. The relay stays as it
+    /// is.
     fn before_step(&mut self, relay: &Relay, meta: &Meta, n: usize)
         requires { n ≤ MAX_DATAGRAM }
         ensures { events self.new ≡ events self.old };

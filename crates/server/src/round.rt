@@ -9,8 +9,8 @@ use crate::schedule::Schedule;
 
 /// What serves the endpoints of a server, by their tokens.
 pub trait Endpoints {
-    /// The turns that endpoints have had so far, of a server that reports them; `None` of one that doesn't, or that has stopped
-    /// for good.
+    /// The turns that endpoints have had so far, of a server that reports them; `None` of one that doesn't, or that has
+    /// stopped for good.
     ghost turns: { Self → Option (List EndpointTurn) } = { λ _. None };
 
     /// Gives the endpoint with a token its turn. Returns whether it may have more then.
@@ -41,10 +41,11 @@ fn serve_ready<E: Endpoints>(endpoints: &mut E, schedule: &mut Schedule)
     }
 }
 
-/// Serves a round, after a wait that has reported some endpoints. Each endpoint that was ready before the round, or that is
-/// reported, has exactly one turn: those that are reported and weren't known to be ready first, as they are reported, and then
-/// those that were ready, in the order of their tokens. A token that no endpoint has is passed over. After the round an endpoint is
-/// ready exactly where its turn says that it may have more, or where it was reported again after its turn.
+/// Serves a round, after a wait that has reported some endpoints. Each endpoint that was ready before the round, or
+/// that is reported, has exactly one turn: those that are reported and weren't known to be ready first, as they are
+/// reported, and then those that were ready, in the order of their tokens. A token that no endpoint has is passed over.
+/// After the round an endpoint is ready exactly where its turn says that it may have more, or where it was reported
+/// again after its turn.
 pub fn serve_round<E: Endpoints>(endpoints: &mut E, reports: &[usize], schedule: &mut Schedule)
     ensures { HasServedRound schedule.old schedule.new reports.now (E.turns endpoints.old) (E.turns endpoints.new) }
 {

@@ -28,9 +28,9 @@ pub(crate) struct Entry {
     pub(crate) round: u64,
 }
 
-/// The endpoints of a server, by their tokens 0, 1, .., and which of them are served in a round: first those that a wait reports
-/// and that weren't known to be ready, as they are reported, and then those that were ready before, in order. The model is the
-/// list of what is known of them.
+/// The endpoints of a server, by their tokens 0, 1, .., and which of them are served in a round: first those that a
+/// wait reports and that weren't known to be ready, as they are reported, and then those that were ready before, in
+/// order. The model is the list of what is known of them.
 #[derive(Drop)]
 pub struct Schedule {
     entries: Vec<Entry>,
@@ -81,8 +81,8 @@ fn unstamp(entries: &mut [Entry])
 }
 
 impl Schedule {
-    /// Returns the schedule of a number of endpoints, each of which is ready at first, since datagrams may have come before the
-    /// first wait.
+    /// Returns the schedule of a number of endpoints, each of which is ready at first, since datagrams may have come
+    /// before the first wait.
     ///
     /// # Errors
     /// Where memory runs out.
@@ -147,9 +147,9 @@ impl Schedule {
         self.ready = self.ready - count_of(was_ready) + count_of(is_ready);
     }
 
-    /// Notes that a wait has reported an endpoint. Returns whether it is to be served now: it was not ready, and is not served in
-    /// this round yet. One that was ready is served later in the round; one that is reported again after its turn is ready for
-    /// the next round.
+    /// Notes that a wait has reported an endpoint. Returns whether it is to be served now: it was not ready, and is not
+    /// served in this round yet. One that was ready is served later in the round; one that is reported again after its
+    /// turn is ready for the next round.
     pub fn report(&mut self, token: usize) -> bool
         ensures now { result ≡ is_new (status_at self.old token) }
         ensures after { self.new ≡ reported self.old token }
@@ -170,7 +170,8 @@ impl Schedule {
         self.put(token, more);
     }
 
-    /// Returns the first endpoint that is ready and isn't served in this round, or the number of endpoints where there is none.
+    /// Returns the first endpoint that is ready and isn't served in this round, or the number of endpoints where there
+    /// is none.
     #[inline(always)]
     fn find(&self) -> usize
         ensures { result ≡ position_or_len is_due self.now }
@@ -187,8 +188,8 @@ impl Schedule {
         count
     }
 
-    /// Returns the first endpoint that is ready and isn't served in this round, which is to be served now. From then on it
-    /// counts as served. `None` ends the round.
+    /// Returns the first endpoint that is ready and isn't served in this round, which is to be served now. From then on
+    /// it counts as served. `None` ends the round.
     pub fn next_ready(&mut self) -> Option<usize>
         ensures endpoint { result ≡ position is_due self.old }
         ensures after { self.new ≡ handed_out self.old }

@@ -20,13 +20,13 @@ pub enum ServeError {
     Send,
 }
 
-/// Serves one datagram at an endpoint, if one has come there: receives once, steps, and sends the answer, if there is one.
-/// Returns what was done with the datagram that came; `None` is that none came. It is a [`turn`](crate::turn()) of which nothing
-/// is recorded, counted or denied.
+/// Serves one datagram at an endpoint, if one has come there: receives once, steps, and sends the answer, if there is
+/// one. Returns what was done with the datagram that came; `None` is that none came. It is a [`turn`](crate::turn()) of
+/// which nothing is recorded, counted or denied.
 ///
 /// # Errors
-/// `Receive` where the receive fails or counts more than 65,507 bytes; then the relay is as before. `Send` where the send
-/// fails; then it is as after the datagram.
+/// `Receive` where the receive fails or counts more than 65,507 bytes; then the relay is as before. `Send` where the
+/// send fails; then it is as after the datagram.
 pub fn serve_once<L: Link>(
     relay: &mut Relay,
     link: &mut L,

@@ -33,8 +33,8 @@ impl SocketId {
     }
 }
 
-/// Returns which socket has a token, of a server with so many slots. 0 is that of all clients, those of the slots' clients follow in
-/// order, then those of IPv4 of the slots, and then those of IPv6.
+/// Returns which socket has a token, of a server with so many slots. 0 is that of all clients, those of the slots'
+/// clients follow in order, then those of IPv4 of the slots, and then those of IPv6.
 #[inline(always)]
 pub fn socket_of(token: usize, slots: usize) -> SocketId
     ensures { (slots6 : ℕ) → token < length (sockets slots slots6) → result ≡ socket_at slots slots6 token }

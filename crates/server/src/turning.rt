@@ -134,8 +134,8 @@ fn send_from<L: Link>(
     }
 }
 
-/// Sends an answer, if there is one and neither its peer nor its client is denied, and returns what became of the datagram that
-/// came.
+/// Sends an answer, if there is one and neither its peer nor its client is denied, and returns what became of the
+/// datagram that came.
 #[inline(always)]
 fn answer<L: Link>(
     link: &mut L,
@@ -162,11 +162,13 @@ fn answer<L: Link>(
     }
 }
 
-/// Takes one turn at an endpoint: receives once, records what came, steps, and sends the answer once, if there is one and neither
-/// its peer nor its client is denied. Returns what became of the datagram that came; `None` is that none came.
+/// Takes one turn at an endpoint: receives once, records what came, steps, and sends the answer once, if there is one
+/// and neither its peer nor its client is denied. Returns what became of the datagram that came; `None` is that none
+/// came.
 ///
 /// # Errors
-/// Where the receive fails or counts more than 65,507 bytes; then the relay is as before, and nothing is recorded or sent.
+/// Where the receive fails or counts more than 65,507 bytes; then the relay is as before, and nothing is recorded or
+/// sent.
 #[inline(always)]
 pub(crate) fn take<L: Link, R: Recorder>(
     relay: &mut Relay,
@@ -193,13 +195,15 @@ pub(crate) fn take<L: Link, R: Recorder>(
     }))
 }
 
-/// Takes one turn at an endpoint, and counts it: receives once, records what came, steps, and sends the answer once, if there is
-/// one and neither its peer nor its client is denied. Returns what became of the datagram that came; `None` is that none came.
+/// Takes one turn at an endpoint, and counts it: receives once, records what came, steps, and sends the answer once, if
+/// there is one and neither its peer nor its client is denied. Returns what became of the datagram that came; `None` is
+/// that none came.
 /// See docs/DECISIONS.md, "One function serves a datagram".
 /// See docs/DECISIONS.md, "A turn is counted when it ends".
 ///
 /// # Errors
-/// Where the receive fails or counts more than 65,507 bytes; then the relay is as before, and nothing is recorded or sent.
+/// Where the receive fails or counts more than 65,507 bytes; then the relay is as before, and nothing is recorded or
+/// sent.
 #[inline(always)]
 pub fn turn<L: Link, R: Recorder>(
     relay: &mut Relay,

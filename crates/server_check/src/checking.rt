@@ -158,8 +158,8 @@ fn permit<R: Clock + Net, G: Rng, W: Write>(
     print(out, "CreatePermission", reply.took)
 }
 
-/// Sends a datagram to the relayed address, which comes back from the server, and returns the address that it had there. A NAT of the
-/// client may give it another port than the requests (RFC 4787, section 4.1).
+/// Sends a datagram to the relayed address, which comes back from the server, and returns the address that it had
+/// there. A NAT of the client may give it another port than the requests (RFC 4787, section 4.1).
 fn send_to_relayed<R: Clock + Net, G: Rng, W: Write>(
     exchange: &Exchange<'_, R, G>,
     relayed: SocketAddr,
@@ -236,8 +236,9 @@ fn check_user<R: Clock + Net, G: Rng, W: Write>(
     relays.and(released)
 }
 
-/// Checks a server, as a client does: asks it for a Binding and, with a user, for an allocation and a permission for the client
-/// itself, and sends a datagram to itself over the relay and back. Prints a line for each step that works, with how long it took.
+/// Checks a server, as a client does: asks it for a Binding and, with a user, for an allocation and a permission for
+/// the client itself, and sends a datagram to itself over the relay and back. Prints a line for each step that works,
+/// with how long it took.
 /// See docs/DECISIONS.md, "A check asks as a client".
 ///
 /// # Errors

@@ -1,5 +1,5 @@
-//! A check of a server, as a client makes it: a Binding, an allocation with a permission for the client itself, and a datagram to
-//! itself over the relay and back.
+//! A check of a server, as a client makes it: a Binding, an allocation with a permission for the client itself, and a
+//! datagram to itself over the relay and back.
 #![tactic(auto)]
 
 mod checking;

@@ -1,5 +1,6 @@
-//! Replays the events on standard input with the shipped programs, a call for each line, and prints the line of each answer. A
-//! call that is refused memory is made once more over the same line. The answers have their room before the first event.
+//! Replays the events on standard input with the shipped programs, a call for each line, and prints the line of each
+//! answer. A call that is refused memory is made once more over the same line. The answers have their room before the
+//! first event.
 #![tactic(auto)]
 
 use anyhow::Result;

@@ -12,8 +12,8 @@ use programs::{CLIENT, PEER};
 use relay::Relay;
 use std::alloc::{AllocError, Global};
 
-/// Returns a configuration with this relayed IPv4 address and this many slots: ports from 49152 on, the realm `relay`, the
-/// nonce `n1`, and the user `u` with the password `p`.
+/// Returns a configuration with this relayed IPv4 address and this many slots: ports from 49152 on, the realm `relay`,
+/// the nonce `n1`, and the user `u` with the password `p`.
 pub fn config(alloc: Global, ip: [u8; 4], slots: usize) -> Result<Config, AllocError>
     ensures ip { IfOk result (λ config. config.ip ≡ ip) }
     ensures slots { IfOk result (λ config. config.slots ≡ slots) }

@@ -42,8 +42,8 @@ fn split_line(text: &str) -> (&str, &str)
     }
 }
 
-/// Returns the lines that a text has: one, or two, of which the second is the former secret, without the line feeds that end
-/// them; `None` where a third line follows.
+/// Returns the lines that a text has: one, or two, of which the second is the former secret, without the line feeds
+/// that end them; `None` where a third line follows.
 fn lines_of(text: &str) -> Option<SecretLines<'_>>
     ensures { option_map (λ s. (s.secret.now, option_map (λ line. line.now) s.former)) result ≡ secrets_in text.now }
 {
@@ -75,8 +75,8 @@ fn copy(alloc: Global, line: &str) -> Result<Vec<u8>, SecretsError> {
     }
 }
 
-/// Returns the secrets that the text of a file has, one or two lines of which each may end in a carriage return and a line feed:
-/// the secret, and below it the former one, if credentials under it are still accepted.
+/// Returns the secrets that the text of a file has, one or two lines of which each may end in a carriage return and a
+/// line feed: the secret, and below it the former one, if credentials under it are still accepted.
 /// See docs/DECISIONS.md, "Secrets that are replaced".
 ///
 /// # Errors

@@ -117,13 +117,13 @@ fn unconfined_relay_of(alloc: Global, setup: Setup<'_>) -> Result<Relay, SetupEr
     }
 }
 
-/// Sets up a relay with no allocation. `confinement` is what confines its programs to the peers that clients have permitted, if
-/// anything does.
+/// Sets up a relay with no allocation. `confinement` is what confines its programs to the peers that clients have
+/// permitted, if anything does.
 ///
 /// # Errors
 /// The first fault, in this order: a nonce above 64 bytes; the program for clients' datagrams; the program for peers'
-/// datagrams; the first field of the configuration that lies outside its limits. `Memory` where there is none, and memory runs
-/// out.
+/// datagrams; the first field of the configuration that lies outside its limits. `Memory` where there is none, and
+/// memory runs out.
 pub fn relay_of(
     alloc: Global,
     setup: Setup<'_>,

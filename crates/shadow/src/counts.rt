@@ -22,8 +22,8 @@ pub const DIFFERENCES: [ChoiceComparison; 8] = [
     ChoiceComparison::OtherBytes,
 ];
 
-/// How often each comparison came out. A count stays at [`u64::MAX`] once it is there. Displays as what stands after the name of
-/// a shadow.
+/// How often each comparison came out. A count stays at [`u64::MAX`] once it is there. Displays as what stands after
+/// the name of a shadow.
 #[derive(Drop)]
 pub struct ShadowCounts {
     values: [u64; COUNT],

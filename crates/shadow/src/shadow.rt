@@ -58,21 +58,22 @@ impl Shadow {
         self.program = program;
     }
 
-    /// Finds what the shadow would do with a datagram, the first `n` bytes of the relay's room, in the relay's state, in place of the
-    /// program of its side. The relay stays as it is.
+    /// Finds what the shadow would do with a datagram, the first `n` bytes of the relay's room, in the relay's state,
+    /// in place of the program of its side. The relay stays as it is.
     pub fn choose(&mut self, relay: &Relay, meta: &Meta, n: usize)
         requires { n ≤ MAX_DATAGRAM }
         ensures chosen { chosen_by_route self.new.frame self.new.route
-            ≡ chosen_of (with_program relay.now meta.entry.now.from self.old.program) meta.entry.now (datagram_at relay.now n) }
+            ≡ chosen_of (with_program relay.now meta.entry.now.from self.old.program) meta.entry.now
+            (datagram_at relay.now n) }
         ensures rest { self.new.program ≡ self.old.program }
     {
         copy_to(&mut self.frame, relay.room(), n);
         self.route = relay.route_of(self.program.program(), &mut self.frame, meta, n);
     }
 
-    /// Compares what the shadow would do with the datagram that it saw last with what the program has done with it. Where that is
-    /// what the relay's program did in the state in which the shadow was asked, and both do the same, the relay would have made the
-    /// same step with the shadow in place of its program.
+    /// Compares what the shadow would do with the datagram that it saw last with what the program has done with it.
+    /// Where that is what the relay's program did in the state in which the shadow was asked, and both do the same, the
+    /// relay would have made the same step with the shadow in place of its program.
     pub fn compare_with(&self, done: Choice<'_>) -> ChoiceComparison
         ensures compared { result ≡ compared (chosen_in done.entry) (chosen_by_route self.now.frame self.now.route) }
         ensures same { (r : RelayContents) (given : Meta) (n : ℕ)

@@ -109,8 +109,8 @@ impl Shadows {
         }
     }
 
-    /// Lets the shadow of the side of a datagram, the first `n` bytes of a relay's room, choose what it would do with it, if there is
-    /// one. The relay stays as it is.
+    /// Lets the shadow of the side of a datagram, the first `n` bytes of a relay's room, choose what it would do with
+    /// it, if there is one. The relay stays as it is.
     #[inline(always)]
     pub fn choose(&mut self, relay: &Relay, meta: &Meta, n: usize)
         requires { n ≤ MAX_DATAGRAM }
@@ -120,8 +120,8 @@ impl Shadows {
         }
     }
 
-    /// Compares what the shadow of the side of the last datagram would do with it, if there is one, with what the program has done, and
-    /// counts it.
+    /// Compares what the shadow of the side of the last datagram would do with it, if there is one, with what the
+    /// program has done, and counts it.
     #[inline(always)]
     pub fn compare_with(
         &mut self,

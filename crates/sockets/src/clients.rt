@@ -45,8 +45,8 @@ pub(crate) fn socket_address(address: Addr) -> SocketAddr {
     }
 }
 
-/// Binds a socket to the address of another one, and connects it to a client. For as long as it is bound, the other one lets its
-/// address be shared with sockets of the same user.
+/// Binds a socket to the address of another one, and connects it to a client. For as long as it is bound, the other one
+/// lets its address be shared with sockets of the same user.
 fn connected<R: Net>(
     rt: &R,
     shared: &UdpSocket,
@@ -126,9 +126,9 @@ impl ClientSockets {
         false
     }
 
-    /// Gives at most so many of the clients that are to have a socket one, which a poll reports under the token of its slot, that
-    /// of slot 0 being `first`. Where the system has none more the client is served at that of all clients. Returns whether there
-    /// was a client that was to have one.
+    /// Gives at most so many of the clients that are to have a socket one, which a poll reports under the token of its
+    /// slot, that of slot 0 being `first`. Where the system has none more the client is served at that of all clients.
+    /// Returns whether there was a client that was to have one.
     pub(crate) fn connect_wanted<R: Net>(
         &mut self,
         rt: &R,
@@ -158,8 +158,9 @@ impl ClientSockets {
         true
     }
 
-    /// Sends a datagram to a client at its own socket by a slot, if it has one there. Returns whether it was sent. It isn't where
-    /// it would have to wait, or where an earlier one didn't come to the client, which the system reports once.
+    /// Sends a datagram to a client at its own socket by a slot, if it has one there. Returns whether it was sent. It
+    /// isn't where it would have to wait, or where an earlier one didn't come to the client, which the system reports
+    /// once.
     #[inline(always)]
     pub(crate) fn send(&self, slot: usize, to: &Addr, bytes: &[u8]) -> bool {
         match self.by_slot.get(slot) {
@@ -188,7 +189,8 @@ impl ClientSockets {
     }
 }
 
-/// Returns the socket of a client, which a poll reports from now on; without that the client is served at that of all clients.
+/// Returns the socket of a client, which a poll reports from now on; without that the client is served at that of all
+/// clients.
 fn registered(
     registry: &Registry,
     token: usize,

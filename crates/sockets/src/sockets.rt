@@ -50,8 +50,8 @@ impl Addresses {
         }
     }
 
-    /// Returns by which address data of one slot comes to another, where a relayed address isn't the one that the slots' sockets are
-    /// bound to. Sockets that are bound to all addresses are reached by that of the machine itself.
+    /// Returns by which address data of one slot comes to another, where a relayed address isn't the one that the
+    /// slots' sockets are bound to. Sockets that are bound to all addresses are reached by that of the machine itself.
     fn hairpin(&self, relayed: IpAddr, listen: IpAddr, itself: IpAddr) -> Option<Hairpin> {
         let bound = if listen.is_unspecified() {
             itself
@@ -124,7 +124,8 @@ pub struct EndpointSockets {
     /// The socket of IPv6 of each slot; empty without an IPv6 address.
     slots6: Vec<UdpSocket>,
     ports: Ports,
-    /// By which addresses data of one slot comes to another, of each family, where relayed addresses aren't those of the sockets.
+    /// By which addresses data of one slot comes to another, of each family, where relayed addresses aren't those of
+    /// the sockets.
     hairpin: Option<Hairpin>,
     hairpin6: Option<Hairpin>,
     /// The socket at which datagrams are received.
@@ -237,7 +238,8 @@ impl EndpointSockets {
         self.ports.client
     }
 
-    /// Returns the slot of the socket at which datagrams are received, or the one of its client; none of the socket of all clients.
+    /// Returns the slot of the socket at which datagrams are received, or the one of its client; none of the socket of
+    /// all clients.
     #[inline(always)]
     fn chosen_slot(&self) -> Option<usize> {
         match self.chosen {
@@ -246,8 +248,8 @@ impl EndpointSockets {
         }
     }
 
-    /// Sends a datagram to a client at its own socket, which the system needn't ask for the way to it. Returns whether it was sent:
-    /// not where it isn't the client of the slot that has its turn, or has no such socket.
+    /// Sends a datagram to a client at its own socket, which the system needn't ask for the way to it. Returns whether
+    /// it was sent: not where it isn't the client of the slot that has its turn, or has no such socket.
     #[inline(always)]
     fn send_at_own(&self, endpoint: Place, to: &Addr, bytes: &[u8]) -> bool {
         match (endpoint, self.chosen_slot()) {
@@ -316,7 +318,8 @@ impl Sockets {
         buffer_of(&self.endpoints.client)
     }
 
-    /// Returns the address of the clients' socket. Where port 0 was asked for, its port is the one that the system chose.
+    /// Returns the address of the clients' socket. Where port 0 was asked for, its port is the one that the system
+    /// chose.
     pub fn address(&self) -> io::Result<SocketAddr> {
         self.endpoints.client.local_addr()
     }
@@ -348,7 +351,8 @@ impl Sockets {
         register_all(registry, slots6.as_mut_slice(), first6)
     }
 
-    /// Chooses a socket by its token, and returns its endpoint. Datagrams are received at the socket that was chosen last.
+    /// Chooses a socket by its token, and returns its endpoint. Datagrams are received at the socket that was chosen
+    /// last.
     pub fn choose(&mut self, token: usize) -> Place {
         let socket = socket_of(token, self.endpoints.slots.len());
         self.endpoints.chosen = socket;
@@ -361,8 +365,8 @@ impl Sockets {
         self.endpoints.clients.want(slot, client);
     }
 
-    /// Gives at most so many of the clients that are to have a socket one, which a poll reports. Returns whether there was a client
-    /// that was to have one.
+    /// Gives at most so many of the clients that are to have a socket one, which a poll reports. Returns whether there
+    /// was a client that was to have one.
     pub fn connect_wanted<R: Net>(&mut self, rt: &R, poll: &Poll, most: usize) -> bool {
         let EndpointSockets {
             client,
@@ -372,8 +376,8 @@ impl Sockets {
         clients.connect_wanted(rt, client, poll.registry(), FIRST_CLIENT, most)
     }
 
-    /// Closes at most so many sockets, of the slots from one on, of clients that have no allocation at their slot any more, and at
-    /// which nothing waits. Returns the slot at which to continue, if as many are closed.
+    /// Closes at most so many sockets, of the slots from one on, of clients that have no allocation at their slot any
+    /// more, and at which nothing waits. Returns the slot at which to continue, if as many are closed.
     pub fn close_others(
         &mut self,
         tables: &Tables,
@@ -421,8 +425,8 @@ impl Link for EndpointSockets {
         }
     }
 
-    /// Sends a datagram from an endpoint: to a client at its own socket, and where that sends nothing, at the endpoint's. One that
-    /// would have to wait there, or isn't sent whole, is a fault.
+    /// Sends a datagram from an endpoint: to a client at its own socket, and where that sends nothing, at the
+    /// endpoint's. One that would have to wait there, or isn't sent whole, is a fault.
     /// See docs/DECISIONS.md, "Data between two clients of one server" and "A socket for each client".
     fn send(&mut self, endpoint: Place, to: Addr, bytes: &[u8]) -> Result<(), LinkFault> {
         if self.send_at_own(endpoint, &to, bytes) {

@@ -1,4 +1,5 @@
-//! UDP sockets with options that have to be set before they are bound, with the sizes of their buffers, and what comes at them.
+//! UDP sockets with options that have to be set before they are bound, with the sizes of their buffers, and what comes
+//! at them.
 
 ghost use Rattle.std.specs.Prelude.{◌↔◌, pos, ◌≤ℤ◌, IsOk};
 ghost use Rattle.libc.specs.Net.{Family};
@@ -20,7 +21,8 @@ const LENGTH6: u32 = 28;
 /// The options of a socket.
 #[derive(Clone, Copy)]
 pub struct SocketOptions {
-    /// The bytes of the buffer of datagrams that came, and of the buffer of those to send: what the system is asked for.
+    /// The bytes of the buffer of datagrams that came, and of the buffer of those to send: what the system is asked
+    /// for.
     pub buffer: i32,
     /// Whether sockets of other processes may be bound to the same address.
     pub reuse_port: bool,
@@ -105,8 +107,8 @@ fn bind4(address: SocketAddrV4, options: SocketOptions) -> io::Result<OwnedFd> {
     Ok(socket)
 }
 
-/// Binds a socket of IPv6 to an address. It receives and sends datagrams of IPv6 alone, so that a socket of IPv4 can have the
-/// same port (RFC 3493, section 5.3).
+/// Binds a socket of IPv6 to an address. It receives and sends datagrams of IPv6 alone, so that a socket of IPv4 can
+/// have the same port (RFC 3493, section 5.3).
 fn bind6(address: SocketAddrV6, options: SocketOptions) -> io::Result<OwnedFd> {
     let socket = new(c::AF_INET6)?;
     let fd = socket.as_raw_fd();
@@ -129,8 +131,8 @@ pub(crate) fn bind<R: Net>(
     Ok(UdpSocket::from(socket))
 }
 
-/// Returns the bytes that the smaller buffer of a socket has for datagrams. The system reports twice as many, half of which it
-/// takes for its own records.
+/// Returns the bytes that the smaller buffer of a socket has for datagrams. The system reports twice as many, half of
+/// which it takes for its own records.
 pub(crate) fn buffer_of(socket: &UdpSocket) -> io::Result<i32> {
     let fd = socket.as_raw_fd();
     let (mut received, mut sent) = ([0u8; 16], [0u8; 16]);

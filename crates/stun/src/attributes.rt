@@ -31,7 +31,8 @@ pub(crate) fn padding_bytes(length: usize) -> usize
 
 /// Splits bytes after their first attribute and its padding, or returns `None` where it overruns them.
 pub(crate) fn split_attribute(bytes: &[u8]) -> Option<(Attr<'_>, &[u8])>
-    ensures { MatchOption result ((a : PaddedAttribute) (rest : List ℕ) → IsPadded a → bytes.now ≡ attribute_bytes a ++ rest → ⊥)
+    ensures { MatchOption result ((a : PaddedAttribute) (rest : List ℕ) → IsPadded a
+        → bytes.now ≡ attribute_bytes a ++ rest → ⊥)
         (λ r. BeginsWith bytes.now r.0.kind r.0.value.now r.1.now) }
 {
     if bytes.len() < ATTRIBUTE_HEADER_BYTES {

@@ -58,8 +58,8 @@ impl<D: Domain> Model for States<D> {
     ghost invariant = { λ s. s.signatures ≡ signatures_of D.ops s.states.items };
 }
 
-/// The states that the walk has kept, by slot: `None` at each slot that no jump leads to. The list ends at the last slot that
-/// one does.
+/// The states that the walk has kept, by slot: `None` at each slot that no jump leads to. The list ends at the last
+/// slot that one does.
 /// See docs/DECISIONS.md, "Covered states are skipped".
 #[derive(Drop)]
 pub struct KeptStates<D: Domain> {
@@ -110,14 +110,15 @@ impl<D: Domain> KeptState<D> {
         }
     }
 
-    /// Returns whether this state covers another one, whose marks are these words. Where it doesn't, the part that shows it is
-    /// looked at first the next time. What it weighs is added to a weight.
+    /// Returns whether this state covers another one, whose marks are these words. Where it doesn't, the part that
+    /// shows it is looked at first the next time. What it weighs is added to a weight.
     fn covers(&mut self, state: &AbsState<D>, words: &[u64; 8], weight: &mut usize) -> bool
         requires words { words.now ≡ words_of state.now.marks.cells }
         requires room { weight.old ≤ SEARCH }
         ensures same { self.new ≡ self.old }
         ensures value { result ≡ covers D.ops self.old state.now }
-        ensures members { result ≡ true → (s : State) → IsMember D.Member Loose state.now s → IsMember D.Member Loose self.old s }
+        ensures members { result ≡ true → (s : State) → IsMember D.Member Loose state.now s
+            → IsMember D.Member Loose self.old s }
         ensures part { weight.old + PART ≤ weight.new }
         ensures whole { result ≡ true → weight.new ≡ weight.old + PART + WHOLE }
         ensures most { weight.new ≤ weight.old + PART + WHOLE }
@@ -148,8 +149,8 @@ pub(crate) enum SearchProgress {
     Open { passed: usize },
 }
 
-/// Searches some states, each with its signature, for one that covers a state. None of the first `passed` does. Returns what it
-/// weighs, too: it is left at [`SEARCH`].
+/// Searches some states, each with its signature, for one that covers a state. None of the first `passed` does. Returns
+/// what it weighs, too: it is left at [`SEARCH`].
 fn search_among<D: Domain>(
     signatures: &Signatures,
     states: &mut Vec<KeptState<D>>,
@@ -246,8 +247,8 @@ impl<D: Domain> States<D> {
     }
 }
 
-/// Searches the states that are kept at a slot, where states are, for one that covers a state. None of the first `passed` does.
-/// Returns what it weighs, too.
+/// Searches the states that are kept at a slot, where states are, for one that covers a state. None of the first
+/// `passed` does. Returns what it weighs, too.
 fn search_slot<D: Domain>(
     states: &mut Option<States<D>>,
     state: &AbsState<D>,
@@ -275,7 +276,8 @@ fn push_state<D: Domain>(
 ) -> Result<(), AllocError>
     requires { kept ≡ state.now }
     ensures slots { OnOk result (is_some states.new ≡ is_some states.old) }
-    ensures states { OnOk result (states_of states.new ≡ states_with (is_some states.old) state.now (states_of states.old)) }
+    ensures states { OnOk result (states_of states.new
+        ≡ states_with (is_some states.old) state.now (states_of states.old)) }
 {
     if let Some(states) = states {
         states.push(kept, state)?;
@@ -304,7 +306,8 @@ fn target_at(program: &Program, slot: usize) -> Option<usize>
 #[tactic(auto, using(crate::proofs::Keeping::none_more))]
 fn lengthen<D: Domain>(by_slot: &mut Vec<Option<States<D>>>, slot: usize) -> Result<(), AllocError>
     ensures reached { OnOk result (slot < length by_slot.new.items) }
-    ensures same { OnOk result ((n : ℕ) → slice_index_or by_slot.new.items n None ≡ slice_index_or by_slot.old.items n None) }
+    ensures same { OnOk result ((n : ℕ) → slice_index_or by_slot.new.items n None
+        ≡ slice_index_or by_slot.old.items n None) }
 {
     while by_slot.len() <= slot {
         by_slot.push(None)?;
@@ -351,8 +354,8 @@ impl<D: Domain> KeptStates<D> {
         Ok(())
     }
 
-    /// Searches the states that are kept at its slot for one that covers a state. None of the first `passed` does. Returns what
-    /// it weighs, too.
+    /// Searches the states that are kept at its slot for one that covers a state. None of the first `passed` does.
+    /// Returns what it weighs, too.
     pub fn search(&mut self, here: &Pending<D>, passed: usize) -> (SearchProgress, usize)
         requires { HasPassed D.ops (kept_at self.old here.now.slot) passed here.now.state }
         ensures same { self.new ≡ self.old }
@@ -451,13 +454,15 @@ impl<D: Domain> Remains<D> {
         }
     }
 
-    /// Asks for a large piece of memory, and gives it back. An allocator that joins small pieces only at such a request, as that of
-    /// glibc does, then joins the few that were freed since the last one, and never all of them at once.
+    /// Asks for a large piece of memory, and gives it back. An allocator that joins small pieces only at such a
+    /// request, as that of glibc does, then joins the few that were freed since the last one, and never all of them at
+    /// once.
     fn join_freed(&self) {
         let _ = Vec::<u8>::with_capacity(*self.states.allocator(), LARGE_PIECE);
     }
 
-    /// Frees some of the states, in `count` units of work: a state, or a slot. Returns the others, `None` where none is left.
+    /// Frees some of the states, in `count` units of work: a state, or a slot. Returns the others, `None` where none is
+    /// left.
     pub fn free(mut self, count: usize) -> Option<Remains<D>>
         ensures left { IfSome result (λ left. left + count ≡ self) }
         ensures none { IfNone result (self < count) }

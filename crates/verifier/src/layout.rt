@@ -27,7 +27,8 @@ fn put_slots(slots: &mut [Fetched], at: usize, insn: Insn) -> usize
     requires { at + slots_of insn ≤ length slots.old }
     ensures next { result ≡ at + slots_of insn }
     ensures length { length slots.new ≡ length slots.old }
-    ensures put { (code : List Insn) → slot_count code ≡ at → ListsSlots code slots.old → ListsSlots (code ++ insn ∷ []) slots.new }
+    ensures put { (code : List Insn) → slot_count code ≡ at → ListsSlots code slots.old
+        → ListsSlots (code ++ insn ∷ []) slots.new }
 {
     slots[at] = Fetched::Begins(insn);
     if insn.slots() == 1 {
@@ -68,8 +69,8 @@ fn check_slot(slots: &[Fetched; MAX_SLOTS], slot: usize) -> Result<(), Reason>
     }
 }
 
-/// Tests whether each jump leads to an instruction ahead. The slots are listed once, so that a program of jumps takes no longer
-/// than others.
+/// Tests whether each jump leads to an instruction ahead. The slots are listed once, so that a program of jumps takes
+/// no longer than others.
 ///
 /// # Errors
 /// The first faulty jump, in the order of slots.

@@ -10,8 +10,8 @@ use std::marker::Model;
 /// How many signatures a block has.
 pub(crate) const BLOCK: usize = 16;
 
-/// Signatures in the order in which they were added, and what those of each block have in common, by which a whole block is
-/// passed over.
+/// Signatures in the order in which they were added, and what those of each block have in common, by which a whole
+/// block is passed over.
 #[derive(Drop)]
 pub(crate) struct Signatures {
     each: Vec<StateSignature>,
@@ -97,8 +97,8 @@ impl Signatures {
         self.each.pop();
     }
 
-    /// Returns how many signatures from an index on, before an end, are known not to lie within another one: those of a block
-    /// that begins there, or that one.
+    /// Returns how many signatures from an index on, before an end, are known not to lie within another one: those of a
+    /// block that begins there, or that one.
     fn ruled_out(&self, other: StateSignature, at: usize, end: usize) -> usize
         requires before { at < end }
         requires inside { end ≤ length self.now }
@@ -116,8 +116,8 @@ impl Signatures {
         }
     }
 
-    /// Returns the index of the first signature, from an index on and before an end, that lies within another one; the end
-    /// where none does.
+    /// Returns the index of the first signature, from an index on and before an end, that lies within another one; the
+    /// end where none does.
     pub(crate) fn next_within(&self, other: StateSignature, from: usize, end: usize) -> usize
         requires after { from ≤ end }
         requires inside { end ≤ length self.now }

@@ -1,5 +1,5 @@
-//! The walk in slices: it goes on by so much work at a time, and ends in the same verdict. A state that a kept one of its slot
-//! covers is skipped.
+//! The walk in slices: it goes on by so much work at a time, and ends in the same verdict. A state that a kept one of
+//! its slot covers is skipped.
 
 ghost use Rattle.std.specs.Prelude.{◌≡◌, ◌≤◌, ◌+◌, [], true, Err, IfOk, IfErr, IfSome, OnOk};
 ghost use Rattle.insn.specs.Encoding.{slot_count};
@@ -45,8 +45,8 @@ pub struct Frontier<D: Domain> {
     made: usize,
 }
 
-/// Takes the state to follow next in hand: that of the current path or, where it has ended, the last pending one. Returns
-/// `Ended` where no state waits.
+/// Takes the state to follow next in hand: that of the current path or, where it has ended, the last pending one.
+/// Returns `Ended` where no state waits.
 fn resume<D: Domain>(at: &mut Frontier<D>) -> Path
     ensures waits { waits_of at.new ≡ waits_of at.old }
     ensures kept { at.new.kept ≡ at.old.kept }
@@ -88,10 +88,13 @@ fn settle<D: Domain, L: Ledger>(
     requires pauses { Pauses D.ops D.Member program.now at.old.made (waits_of at.old) at.old.kept }
     requires waits { at.old.path ≡ Continues }
     requires covered { covered ≡ is_covered D.ops (kept_at at.old.kept) at.old.here.value }
-    requires members { covered ≡ true → HasCover D.Member (kept_at at.old.kept at.old.here.value.slot) at.old.here.value.state }
+    requires members { covered ≡ true → HasCover D.Member
+        (kept_at at.old.kept at.old.here.value.slot) at.old.here.value.state }
     ensures settled { OnOk result (HasSettled D.ops D.Member program.now budget at.old at.new steps.old steps.new) }
-    ensures ended { IfErr result (λ e. Stops {T = Unit {0}} D.ops D.Member program.now budget at.old.made 1 steps.old steps.new (Err e)) }
-    ensures unit { OnOk result (DoesUnit D.ops program.now (waits_of at.old) (waits_of at.new) at.old.made at.new.made) }
+    ensures ended { IfErr result
+        (λ e. Stops {T = Unit {0}} D.ops D.Member program.now budget at.old.made 1 steps.old steps.new (Err e)) }
+    ensures unit { OnOk result (DoesUnit D.ops program.now (waits_of at.old)
+        (waits_of at.new) at.old.made at.new.made) }
     ensures refused { IfErr result (RefusesUnit D.ops program.now (waits_of at.old)) }
     ensures ahead { OnOk result (at.new.ahead ≡ at.old.ahead) }
 {
@@ -109,9 +112,9 @@ fn settle<D: Domain, L: Ledger>(
     Ok(())
 }
 
-/// Does one unit of work: searches the states that are kept at the slot of the state to follow next for one that covers it,
-/// and skips that state, or makes its step, where the search comes to its end. Returns what the unit weighs, `None` where no
-/// state waits.
+/// Does one unit of work: searches the states that are kept at the slot of the state to follow next for one that covers
+/// it, and skips that state, or makes its step, where the search comes to its end. Returns what the unit weighs, `None`
+/// where no state waits.
 ///
 /// # Errors
 /// V17 where the step would pass the budget; else the refusal of the step.
@@ -126,7 +129,8 @@ fn work<D: Domain, L: Ledger>(
     requires within { at.old.made ≤ budget }
     requires pauses { Pauses D.ops D.Member program.now at.old.made (waits_of at.old) at.old.kept }
     requires passed { HasPassedHere D.ops at.old }
-    ensures on { IfOk result (λ done. IfSome done (HasDoneUnit D.ops D.Member program.now budget at.old at.new steps.old steps.new)) }
+    ensures on { IfOk result (λ done. IfSome done
+        (HasDoneUnit D.ops D.Member program.now budget at.old at.new steps.old steps.new)) }
     ensures ended { StopsUnit D.ops D.Member program.now budget at.old.made steps.old steps.new result }
 {
     if let Path::Ended = resume(at) {
@@ -141,8 +145,8 @@ fn work<D: Domain, L: Ledger>(
     Ok(Some(UNIT + weight))
 }
 
-/// Does work of the weight `slice`, with what was done beyond the slices before, or less where the walk ends. What a unit does
-/// beyond it is part of the next slice.
+/// Does work of the weight `slice`, with what was done beyond the slices before, or less where the walk ends. What a
+/// unit does beyond it is part of the next slice.
 ///
 /// # Errors
 /// The first refusal that is met.
@@ -159,7 +163,8 @@ fn work_on<D: Domain, L: Ledger>(
     requires pauses { Pauses D.ops D.Member program.now at.old.made (waits_of at.old) at.old.kept }
     requires passed { HasPassedHere D.ops at.old }
     requires light { at.old.ahead ≤ HEAVIEST }
-    ensures on { IfOk result (IfContinues (HasDoneSlice D.ops D.Member program.now budget at.old at.new slice steps.old steps.new)) }
+    ensures on { IfOk result
+        (IfContinues (HasDoneSlice D.ops D.Member program.now budget at.old at.new slice steps.old steps.new)) }
     ensures ended { StopsIn D.ops D.Member program.now budget at.old.made slice steps.old steps.new result }
 {
     let mut left = slice.saturating_sub(at.ahead);
@@ -176,7 +181,8 @@ fn work_on<D: Domain, L: Ledger>(
 
 /// Searches all states that are kept at the slot of the state at hand, and returns whether one covers it.
 fn is_covered<D: Domain>(at: &mut Frontier<D>) -> bool
-    requires passed { HasPassed D.ops (kept_at at.old.kept at.old.here.value.slot) at.old.passed at.old.here.value.state }
+    requires passed { HasPassed D.ops (kept_at at.old.kept at.old.here.value.slot) at.old.passed
+        at.old.here.value.state }
     ensures path { at.new.path ≡ at.old.path }
     ensures here { at.new.here ≡ at.old.here }
     ensures pending { at.new.pending ≡ at.old.pending }
@@ -184,7 +190,8 @@ fn is_covered<D: Domain>(at: &mut Frontier<D>) -> bool
     ensures made { at.new.made ≡ at.old.made }
     ensures ahead { at.new.ahead ≡ at.old.ahead }
     ensures value { result ≡ is_covered D.ops (kept_at at.old.kept) at.old.here.value }
-    ensures members { result ≡ true → HasCover D.Member (kept_at at.old.kept at.old.here.value.slot) at.old.here.value.state }
+    ensures members { result ≡ true → HasCover D.Member
+        (kept_at at.old.kept at.old.here.value.slot) at.old.here.value.state }
 {
     loop {
         match at.kept.search(&at.here, at.passed).0 {
@@ -195,8 +202,8 @@ fn is_covered<D: Domain>(at: &mut Frontier<D>) -> bool
     }
 }
 
-/// Skips the state to follow next, where a kept one of its slot covers it, or else makes its step, whatever that weighs.
-/// Returns `Ended` where no state waits.
+/// Skips the state to follow next, where a kept one of its slot covers it, or else makes its step, whatever that
+/// weighs. Returns `Ended` where no state waits.
 ///
 /// # Errors
 /// V17 where the step would pass the budget; else the refusal of the step.
@@ -211,7 +218,8 @@ fn step_on<D: Domain, L: Ledger>(
     requires within { at.old.made ≤ budget }
     requires pauses { Pauses D.ops D.Member program.now at.old.made (waits_of at.old) at.old.kept }
     requires passed { HasPassedHere D.ops at.old }
-    ensures on { IfOk result (IfContinues (HasSettled D.ops D.Member program.now budget at.old at.new steps.old steps.new)) }
+    ensures on { IfOk result
+        (IfContinues (HasSettled D.ops D.Member program.now budget at.old at.new steps.old steps.new)) }
     ensures ahead { OnOk result (at.new.ahead ≡ at.old.ahead) }
     ensures ended { StopsIn D.ops D.Member program.now budget at.old.made 1 steps.old steps.new result }
     ensures unit { IsUnitBetween D.ops program.now at.old at.new result }
@@ -240,7 +248,8 @@ impl<D: Domain> Model for Walk<D> {
 
     ghost view = { λ w. walking_at w.translation w.budget w.at };
 
-    ghost invariant = { λ w. IsWalk D.ops D.Member (walking_at w.translation w.budget w.at) × HasPassedHere D.ops w.at };
+    ghost invariant = { λ w. IsWalk D.ops D.Member (walking_at w.translation w.budget w.at)
+        × HasPassedHere D.ops w.at };
 }
 
 /// What a walk has come to after a slice.
@@ -346,7 +355,8 @@ impl<D: Domain> Walk<D> {
         self.at.made
     }
 
-    /// Skips the state to follow next, where a kept one of its slot covers it, or else makes its step, whatever that weighs.
+    /// Skips the state to follow next, where a kept one of its slot covers it, or else makes its step, whatever that
+    /// weighs.
     pub fn step<L: Ledger>(self, steps: &mut Steps<L>) -> Progress<D>
         ensures slice { IsSlice D.ops D.Member self 1 steps.old steps.new result }
         ensures unit { IsUnit D.ops self result }
@@ -367,8 +377,8 @@ impl<D: Domain> Walk<D> {
         }
     }
 
-    /// Goes on by work of the weight `slice`, or less where the walk ends. Of what the last unit of work does beyond it, so much
-    /// less is done by the next slices. No unit weighs more than 10,240, whatever the program is.
+    /// Goes on by work of the weight `slice`, or less where the walk ends. Of what the last unit of work does beyond
+    /// it, so much less is done by the next slices. No unit weighs more than 10,240, whatever the program is.
     pub fn advance<L: Ledger>(self, slice: usize, steps: &mut Steps<L>) -> Progress<D>
         ensures { IsSlice D.ops D.Member self slice steps.old steps.new result }
     {

@@ -115,8 +115,8 @@ fn slot_after(program: &Program, slot: usize, insn: Insn, branch: Branch) -> usi
     }
 }
 
-/// Goes on by the branch not taken: changes the state to that of the branch, at the slot that it leads to. The path ends
-/// where the branch isn't feasible.
+/// Goes on by the branch not taken: changes the state to that of the branch, at the slot that it leads to. The path
+/// ends where the branch isn't feasible.
 fn go_on<D: Copy>(
     program: &Program,
     insn: Insn,
@@ -163,8 +163,8 @@ fn leave<D: Copy>(
     Ok(())
 }
 
-/// Makes one step of the current path, and goes on to its next state: that of the branch not taken. The taken branch of a
-/// conditional jump is left pending.
+/// Makes one step of the current path, and goes on to its next state: that of the branch not taken. The taken branch of
+/// a conditional jump is left pending.
 fn advance<D: Domain>(
     program: &Program,
     here: &mut Pending<D>,
@@ -219,9 +219,9 @@ pub(crate) fn make_step<D: Domain>(
     advance(program, here, pending)
 }
 
-/// Verifies a program, with what a numeric domain knows of its numbers: accepts it if no step of it, on any path, can be
-/// stuck. `steps` counts one for each abstract step, of which at most `budget` are made. A state that one kept at its slot
-/// covers takes no step: states are kept at the slots that jumps lead to.
+/// Verifies a program, with what a numeric domain knows of its numbers: accepts it if no step of it, on any path, can
+/// be stuck. `steps` counts one for each abstract step, of which at most `budget` are made. A state that one kept at
+/// its slot covers takes no step: states are kept at the slots that jumps lead to.
 /// See docs/DECISIONS.md, "Refusals need a precise domain".
 /// See docs/DECISIONS.md, "Members are states that runs have".
 ///
@@ -242,16 +242,16 @@ pub fn verify_with<D: Domain, L: Ledger>(
     verify_in_slices::<D, L>(alloc, code, budget, usize::MAX, steps)
 }
 
-/// Verifies a program with intervals: accepts it if no step of it, on any path, can be stuck. `steps` counts one for each
-/// abstract step, of which at most `budget` are made. A state that one kept at its slot covers takes no step: states are kept
-/// at the slots that jumps lead to.
+/// Verifies a program with intervals: accepts it if no step of it, on any path, can be stuck. `steps` counts one for
+/// each abstract step, of which at most `budget` are made. A state that one kept at its slot covers takes no step:
+/// states are kept at the slots that jumps lead to.
 ///
 /// # Errors
 /// A fault of the layout: the first faulty jump (V1 to V3), or a last instruction that is no exit (V4). Else the
 /// first refusal on the paths (V5 to V16, V18, V20), each a step at which a loose run is stuck; V17 at the instruction
-/// whose step would pass the budget; V19 where memory runs out, at the instruction in hand, or at slot 0 before the first
-/// step. In code that adds or subtracts two registers, V10 and V11 at a sum with a constant may come where no run is stuck:
-/// see docs/DECISIONS.md, "Refusals are stuck runs".
+/// whose step would pass the budget; V19 where memory runs out, at the instruction in hand, or at slot 0 before the
+/// first step. In code that adds or subtracts two registers, V10 and V11 at a sum with a constant may come where no run
+/// is stuck: see docs/DECISIONS.md, "Refusals are stuck runs".
 pub fn verify<L: Ledger>(
     alloc: Global,
     code: &[Insn],

@@ -6,8 +6,8 @@ ghost use Rattle.std.specs.Prelude.{◌≡◌};
 /// What a unit of work weighs beside its search: the signature of its state, and a step.
 pub(crate) const UNIT: usize = 1_024;
 
-/// What it weighs to look at the part of a kept state in which it last differed from another one. To look at its signature
-/// weighs 1.
+/// What it weighs to look at the part of a kept state in which it last differed from another one. To look at its
+/// signature weighs 1.
 pub(crate) const PART: usize = 7;
 
 /// What it weighs to compare a kept state with another one as a whole.

@@ -15,8 +15,9 @@ pub enum InputError {
     Memory,
 }
 
-/// Appends what a reader shows of the rest of a line to `line`, with its line feed, and drops it from the reader. Returns how
-/// many bytes, at most `most`, and 0 at the end. Calls of the reader are counted, and interrupted ones are made again.
+/// Appends what a reader shows of the rest of a line to `line`, with its line feed, and drops it from the reader.
+/// Returns how many bytes, at most `most`, and 0 at the end. Calls of the reader are counted, and interrupted ones are
+/// made again.
 ///
 /// # Errors
 /// `Failed` where the reader fails, or where 2^64 - 1 calls of it were made; and `Memory`.
@@ -51,8 +52,8 @@ fn append_shown<R: BufRead>(
     Err(InputError::Failed)
 }
 
-/// A reader, and whether it has failed. It counts the calls of the reader, so that whoever reads an input to its end ends too,
-/// although no reader says that it has an end.
+/// A reader, and whether it has failed. It counts the calls of the reader, so that whoever reads an input to its end
+/// ends too, although no reader says that it has an end.
 #[derive(Drop)]
 pub struct Input<R: BufRead> {
     reader: R,
@@ -96,12 +97,13 @@ impl<R: BufRead> Input<R> {
         self.has_failed
     }
 
-    /// Appends what the reader shows of the rest of a line to `line`, with its line feed, and drops it from the reader. Returns
-    /// how many bytes, at most `most`, and 0 at the end of the input. Interrupted calls of the reader are made again.
+    /// Appends what the reader shows of the rest of a line to `line`, with its line feed, and drops it from the reader.
+    /// Returns how many bytes, at most `most`, and 0 at the end of the input. Interrupted calls of the reader are made
+    /// again.
     ///
     /// # Errors
-    /// `Failed` where the reader fails, or where 2^64 - 1 calls of it were made: then the input has failed. `Memory` where the
-    /// line can't grow.
+    /// `Failed` where the reader fails, or where 2^64 - 1 calls of it were made: then the input has failed. `Memory`
+    /// where the line can't grow.
     pub fn append_shown(&mut self, line: &mut Vec<u8>, most: usize) -> Result<usize, InputError>
         requires going { self.old.failed ≡ false }
         requires some { 0 < most }

@@ -58,8 +58,8 @@ fn flush_whole<W: Write>(writer: &mut W) -> Result<(), Failed>
     Err(Failed)
 }
 
-/// A writer, and whether it has failed. Each function that writes requires that it has not, and nothing else reaches the
-/// writer: so nothing is written after its first failure.
+/// A writer, and whether it has failed. Each function that writes requires that it has not, and nothing else reaches
+/// the writer: so nothing is written after its first failure.
 #[derive(Drop)]
 pub struct Output<W: Write> {
     writer: W,
