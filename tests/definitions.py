@@ -8,7 +8,7 @@ laws aside. Each file that a page links or names is there, unless it is one that
 as many lines as the page says. Each decision that the code names is on docs/DECISIONS.md or on docs/DESIGN.md, and each
 of theirs is named. The picture of docs/ARCHITECTURE.md is that of crates.txt, and the calls on the path of a datagram
 are those of the sources. There are no more test functions than CONTRIBUTING.md says, and no more edits that must fail
-in either folder of a crate, and each edit can be applied.
+in either folder of a crate, and each edit can be applied. No clause and no comment of the code is wider than its limit.
 """
 
 import re
@@ -39,6 +39,9 @@ QUOTED = ("loader/src/loaded.rt", "machine/src/verified_run.rt", "relay/src/ampl
 # how many test functions there may be, and how many edits that must fail in a folder of a crate
 MOST_TESTS = 60
 MOST_EDITS = 8
+# how wide a line of code may be, and what may be wider: imports, tactics, texts, and bytes with their instruction
+MOST_COLUMNS = 120
+MAY_BE_WIDE = re.compile(r'\s*(ghost use |use |#\[tactic|.*"|0x\w\w, .* // )')
 # where the path of a datagram begins
 TURN = Function("relayd", "ServedEndpoints", "serve")
 # the folders of a crate that have them: the gate tries those of the first one, tests/wrong_bodies.py those of the second one
@@ -222,6 +225,14 @@ def failures_of_tests():
         yield f"{count} test functions, and {MOST_TESTS} at most are allowed"
 
 
+def failures_of_columns():
+    """Yields the lines of code that are too wide."""
+    for path in sources():
+        for number, line in enumerate(path.read_text(encoding="utf-8").splitlines(), 1):
+            if len(line) > MOST_COLUMNS and not MAY_BE_WIDE.match(line):
+                yield f"{path.relative_to(TOP)}:{number} has {len(line)} columns, more than {MOST_COLUMNS}"
+
+
 def edits_of(crate):
     """Returns the edits of a crate that must fail, by their folder: those that the gate tries, and those that it leaves out."""
     return {folder: sorted((crate / folder).glob("*.edit")) for folder in EDITS}
@@ -261,7 +272,8 @@ def main():
         PAGE.write_text(made_page(), encoding="utf-8")
     cases = (failures_of_definitions, failures_of_meaning, failures_of_names, failures_of_named_definitions,
              failures_of_pages, failures_of_searches, failures_of_functions, failures_of_headline,
-             failures_of_decisions, failures_of_picture, failures_of_path, failures_of_tests, failures_of_edits)
+             failures_of_decisions, failures_of_picture, failures_of_path, failures_of_tests, failures_of_columns,
+             failures_of_edits)
     failures = [found for case in cases for found in case()]
     return finish(failures, f"definitions and pages: {len(specs())} files, {len(failures)} failures")
 

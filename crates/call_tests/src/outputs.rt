@@ -34,7 +34,7 @@ impl Write for Failing {
 
 /// The room of an output, what is printed to the other stream, the status, and how often the output fails.
 #[derive(Clone, Copy)]
-struct Room {
+struct OutputRoom {
     room: usize,
     err: &'static str,
     status: u8,
@@ -42,26 +42,26 @@ struct Room {
 }
 
 /// With room for all of a report nothing fails.
-static ROOMS: [Room; 4] = [
-    Room {
+static ROOMS: [OutputRoom; 4] = [
+    OutputRoom {
         room: 0,
         err: "cannot write output\n",
         status: 3,
         failures: 1,
     },
-    Room {
+    OutputRoom {
         room: 1,
         err: "cannot write output\n",
         status: 3,
         failures: 1,
     },
-    Room {
+    OutputRoom {
         room: 12,
         err: "cannot write output\n",
         status: 3,
         failures: 1,
     },
-    Room {
+    OutputRoom {
         room: 1_000,
         err: "",
         status: 0,
@@ -70,7 +70,7 @@ static ROOMS: [Room; 4] = [
 ];
 
 /// Reports to an output with the room of each row, and compares what is printed, the status and the failures.
-fn expect_failures<R: Abort + AllocGlobal>(rt: &R, ask: Ask<'_>, file: &[u8], rows: &[Room]) {
+fn expect_failures<R: Abort + AllocGlobal>(rt: &R, ask: Ask<'_>, file: &[u8], rows: &[OutputRoom]) {
     for row in rows {
         let room = row.room;
         let mut out = Output::new(Failing { room, failures: 0 });

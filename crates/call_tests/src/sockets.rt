@@ -24,7 +24,7 @@ const BINDING: [u8; 20] = [
 
 /// The sockets of a server: that of clients, and that of slot 0.
 #[derive(Drop)]
-struct Sockets {
+struct ServerSockets {
     clients: UdpSocket,
     slot: UdpSocket,
 }
@@ -32,7 +32,7 @@ struct Sockets {
 /// The sockets of a client and a peer. The client's is connected to that of clients and the peer's to that of the slot,
 /// so each receives from there alone.
 #[derive(Drop)]
-struct Ends {
+struct SessionSockets {
     client: UdpSocket,
     peer: UdpSocket,
 }
@@ -41,8 +41,8 @@ struct Ends {
 #[derive(Drop)]
 struct Session {
     relay: Relay,
-    sockets: Sockets,
-    ends: Ends,
+    sockets: ServerSockets,
+    ends: SessionSockets,
 }
 
 /// A datagram that was received: the first bytes of the room for it.
@@ -54,7 +54,7 @@ struct Datagram {
 
 /// What is received over a channel: the types of the responses that opened it, and data at the peer and at the client.
 #[derive(Clone, Copy)]
-struct Exchange {
+struct Heard {
     kinds: [Option<[u8; 2]>; 2],
     there: Datagram,
     back: Datagram,
@@ -71,7 +71,7 @@ fn address_of(address: SocketAddr) -> Result<Addr, LinkFault> {
     }
 }
 
-impl Sockets {
+impl ServerSockets {
     /// Returns the socket of an endpoint.
     fn at(&self, endpoint: Place) -> &UdpSocket {
         match endpoint {
@@ -81,7 +81,7 @@ impl Sockets {
     }
 }
 
-impl Link for Sockets {
+impl Link for ServerSockets {
     fn receive(
         &mut self,
         endpoint: Place,
@@ -117,9 +117,9 @@ fn bind_two<R: Net>(rt: &R) -> io::Result<(UdpSocket, UdpSocket)> {
     Ok((first, second))
 }
 
-impl Ends {
+impl SessionSockets {
     /// Connects both sockets to those of a server.
-    fn connect(&self, sockets: &Sockets) -> io::Result<()> {
+    fn connect(&self, sockets: &ServerSockets) -> io::Result<()> {
         self.client.connect(sockets.clients.local_addr()?)?;
         self.peer.connect(sockets.slot.local_addr()?)
     }
@@ -141,11 +141,11 @@ impl Datagram {
 }
 
 /// Binds the sockets of a server, and those of a client and a peer of it.
-fn bind_all<R: Net>(rt: &R) -> io::Result<(Sockets, Ends)> {
+fn bind_all<R: Net>(rt: &R) -> io::Result<(ServerSockets, SessionSockets)> {
     let (clients, slot) = bind_two(rt)?;
-    let sockets = Sockets { clients, slot };
+    let sockets = ServerSockets { clients, slot };
     let (client, peer) = bind_two(rt)?;
-    let ends = Ends { client, peer };
+    let ends = SessionSockets { client, peer };
     ends.connect(&sockets)?;
     Ok((sockets, ends))
 }
@@ -247,13 +247,13 @@ impl Session {
     }
 
     /// Opens the channel, has the client send ChannelData over it, and then the peer send data.
-    fn channel(&mut self) -> Result<Exchange, Fail> {
+    fn channel(&mut self) -> Result<Heard, Fail> {
         let kinds = [self.allocate()?, self.bind_channel()?];
         self.client_sends(b"\x40\x01\x00\x03abc\x00")?;
         let there = received(&self.ends.peer)?;
         self.peer_sends(b"defg")?;
         let back = received(&self.ends.client)?;
-        Ok(Exchange { kinds, there, back })
+        Ok(Heard { kinds, there, back })
     }
 }
 
@@ -273,7 +273,7 @@ fn binding<R: Net>(rt: &R, alloc: Global) -> Result<(Datagram, [u8; 32]), Fail> 
 }
 
 /// Has data served over a channel, and returns what is received.
-fn channel<R: Net>(rt: &R, alloc: Global) -> Result<Exchange, Fail> {
+fn channel<R: Net>(rt: &R, alloc: Global) -> Result<Heard, Fail> {
     let mut session = start(rt, alloc)?;
     session.channel()
 }

@@ -342,8 +342,7 @@ impl Relay {
             ≡ chosen_of self.old meta (datagram_at self.old n) }
         ensures rules { AreShipped self.old.programs → outcome_of self.old meta n ≡ ruled_outcome_of self.old meta n }
         ensures harmless { IsHarmless self.old.programs self.old.config (state_of self.old) meta
-            (datagram_at self.old n)
-            (sending_of result.action) }
+            (datagram_at self.old n) (sending_of result.action) }
         ensures* after { sem 𝓛 (after_step self.entry meta n) }
     {
         self.law_steps_by_rules(&meta, n);

@@ -152,26 +152,26 @@ fn push_ranged(alloc: Global, line: &mut String, word: &str, index: Option<u64>)
 
 /// What of a line is written out.
 #[derive(Clone, Copy)]
-enum Part<'a> {
+enum Abbreviation<'a> {
     Names(&'a Names),
     Repetitions,
     /// Ranges: each number, or the one with an index.
     Ranges(Option<u64>),
 }
 
-impl Part<'_> {
+impl Abbreviation<'_> {
     /// Appends a word.
     fn push(self, alloc: Global, line: &mut String, word: &str) -> Result<()> {
         match self {
-            Part::Names(names) => push_named(line, names, word),
-            Part::Repetitions => push_repeated(alloc, line, word),
-            Part::Ranges(index) => push_ranged(alloc, line, word, index),
+            Abbreviation::Names(names) => push_named(line, names, word),
+            Abbreviation::Repetitions => push_repeated(alloc, line, word),
+            Abbreviation::Ranges(index) => push_ranged(alloc, line, word, index),
         }
     }
 }
 
 /// Returns the words of a line with single blanks, of which a part is written out.
-fn written(alloc: Global, line: &str, part: Part<'_>) -> Result<String> {
+fn written(alloc: Global, line: &str, part: Abbreviation<'_>) -> Result<String> {
     let mut out = String::new(alloc);
     for word in line.split_whitespace() {
         out.push_str(if out.is_empty() { "" } else { " " })?;
@@ -183,13 +183,13 @@ fn written(alloc: Global, line: &str, part: Part<'_>) -> Result<String> {
 /// Returns a line with its texts, names and repetitions written out.
 pub fn expanded(alloc: Global, names: &Names, line: &str) -> Result<String> {
     let line = without_quotes(alloc, line)?;
-    let line = written(alloc, &line, Part::Names(names))?;
-    written(alloc, &line, Part::Repetitions)
+    let line = written(alloc, &line, Abbreviation::Names(names))?;
+    written(alloc, &line, Abbreviation::Repetitions)
 }
 
 /// Returns a line with its ranges written out, each as all of its numbers, or as the one with an index.
 pub fn with_ranges(alloc: Global, line: &str, index: Option<u64>) -> Result<String> {
-    written(alloc, line, Part::Ranges(index))
+    written(alloc, line, Abbreviation::Ranges(index))
 }
 
 /// Returns how many numbers each range of a line has.

@@ -5,9 +5,9 @@ use crate::command_lines::{parsed, refused};
 use crate::expansion::{Named, expanded};
 use crate::explanations::{cost, explained};
 use crate::frames::Frames;
-use crate::kinds::Kind;
-use crate::known::Known;
-use crate::line::{Line, Row};
+use crate::kinds::RowKind;
+use crate::known::KnownNumber;
+use crate::line::{Row, RowLine};
 use crate::one_peer::OnePeer;
 use crate::operators;
 use crate::orders::ordered;
@@ -86,32 +86,32 @@ impl Checks {
     }
 
     /// Returns what is answered to a row.
-    fn answer(&mut self, kind: Kind, row: &Row<'_>) -> Result<String> {
+    fn answer(&mut self, kind: RowKind, row: &Row<'_>) -> Result<String> {
         let alloc = self.alloc;
         match kind {
-            Kind::Assemble => assembled(alloc, row),
-            Kind::Reassemble => reassembled(alloc, row),
-            Kind::Decode => decoded(alloc, row),
-            Kind::Verify => self.verify(row),
-            Kind::Fault => fault(alloc, row),
-            Kind::Domains => over_domains(alloc, row),
-            Kind::Steps => counted_steps(alloc, row),
-            Kind::Budget => with_budget(alloc, row),
-            Kind::Interval => operators::answered::<Interval>(alloc, row),
-            Kind::Known => operators::answered::<Known>(alloc, row),
-            Kind::State => known_after(alloc, row),
-            Kind::Step => stepped(alloc, row),
-            Kind::Walk => walked(alloc, row),
-            Kind::Trace => self.trace(row),
-            Kind::Compute => computed(alloc, row),
-            Kind::Run => ran(alloc, &mut self.frames, row, &NoAllocation),
-            Kind::RunWithPeer => ran(alloc, &mut self.frames, row, &OnePeer),
-            Kind::Report => reported(alloc, row),
-            Kind::Order => ordered(alloc, row),
-            Kind::Explain => explained(alloc, row),
-            Kind::Cost => cost(alloc, row),
-            Kind::Parsed => parsed(alloc, row),
-            Kind::Refused => refused(alloc, row),
+            RowKind::Assemble => assembled(alloc, row),
+            RowKind::Reassemble => reassembled(alloc, row),
+            RowKind::Decode => decoded(alloc, row),
+            RowKind::Verify => self.verify(row),
+            RowKind::Fault => fault(alloc, row),
+            RowKind::Domains => over_domains(alloc, row),
+            RowKind::Steps => counted_steps(alloc, row),
+            RowKind::Budget => with_budget(alloc, row),
+            RowKind::Interval => operators::answered::<Interval>(alloc, row),
+            RowKind::Known => operators::answered::<KnownNumber>(alloc, row),
+            RowKind::State => known_after(alloc, row),
+            RowKind::Step => stepped(alloc, row),
+            RowKind::Walk => walked(alloc, row),
+            RowKind::Trace => self.trace(row),
+            RowKind::Compute => computed(alloc, row),
+            RowKind::Run => ran(alloc, &mut self.frames, row, &NoAllocation),
+            RowKind::RunWithPeer => ran(alloc, &mut self.frames, row, &OnePeer),
+            RowKind::Report => reported(alloc, row),
+            RowKind::Order => ordered(alloc, row),
+            RowKind::Explain => explained(alloc, row),
+            RowKind::Cost => cost(alloc, row),
+            RowKind::Parsed => parsed(alloc, row),
+            RowKind::Refused => refused(alloc, row),
         }
     }
 
@@ -129,7 +129,7 @@ impl Checks {
     fn check_row<R: Print>(&mut self, rt: &R, number: u64, line: &str) -> Result<()> {
         let line = expanded(self.alloc, &self.names, line)?;
         let row = Row::parse(&line)?;
-        let kind = Kind::of(row.kind).context("no such kind of row")?;
+        let kind = RowKind::of(row.kind).context("no such kind of row")?;
         let got = self.answer(kind, &row)?;
         let section = self.count_row()?;
         let Row { kind, expected, .. } = row;
@@ -143,18 +143,18 @@ impl Checks {
     /// Checks a line.
     fn check_line<R: Print>(&mut self, rt: &R, number: u64, line: &str) -> Result<()> {
         let alloc = self.alloc;
-        match Line::parse(line)? {
-            Line::Blank => {}
-            Line::Section(name) => {
+        match RowLine::parse(line)? {
+            RowLine::Blank => {}
+            RowLine::Section(name) => {
                 let name = name.to_string(alloc)?;
                 self.sections.push(Section { name, rows: 0 })?;
             }
-            Line::Let { name, text } => {
+            RowLine::Let { name, text } => {
                 let name = name.to_string(alloc)?;
                 let text = expanded(alloc, &self.names, text)?;
                 self.names.push(Named { name, text })?;
             }
-            Line::Row => self.check_row(rt, number, line)?,
+            RowLine::Row => self.check_row(rt, number, line)?,
         }
         Ok(())
     }

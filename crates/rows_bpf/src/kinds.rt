@@ -2,7 +2,7 @@
 
 /// What is asked by a row.
 #[derive(Clone, Copy, Debug, PartialEq, Eq)]
-pub enum Kind {
+pub enum RowKind {
     Assemble,
     Reassemble,
     Decode,
@@ -29,35 +29,35 @@ pub enum Kind {
 }
 
 /// The word of each kind.
-static WORDS: [(&str, Kind); 23] = [
-    ("assemble", Kind::Assemble),
-    ("reassemble", Kind::Reassemble),
-    ("decode", Kind::Decode),
-    ("verify", Kind::Verify),
-    ("fault", Kind::Fault),
-    ("domains", Kind::Domains),
-    ("steps", Kind::Steps),
-    ("budget", Kind::Budget),
-    ("interval", Kind::Interval),
-    ("known", Kind::Known),
-    ("state", Kind::State),
-    ("step", Kind::Step),
-    ("walk", Kind::Walk),
-    ("trace", Kind::Trace),
-    ("compute", Kind::Compute),
-    ("run", Kind::Run),
-    ("run_with_peer", Kind::RunWithPeer),
-    ("report", Kind::Report),
-    ("order", Kind::Order),
-    ("explain", Kind::Explain),
-    ("cost", Kind::Cost),
-    ("parsed", Kind::Parsed),
-    ("refused", Kind::Refused),
+static WORDS: [(&str, RowKind); 23] = [
+    ("assemble", RowKind::Assemble),
+    ("reassemble", RowKind::Reassemble),
+    ("decode", RowKind::Decode),
+    ("verify", RowKind::Verify),
+    ("fault", RowKind::Fault),
+    ("domains", RowKind::Domains),
+    ("steps", RowKind::Steps),
+    ("budget", RowKind::Budget),
+    ("interval", RowKind::Interval),
+    ("known", RowKind::Known),
+    ("state", RowKind::State),
+    ("step", RowKind::Step),
+    ("walk", RowKind::Walk),
+    ("trace", RowKind::Trace),
+    ("compute", RowKind::Compute),
+    ("run", RowKind::Run),
+    ("run_with_peer", RowKind::RunWithPeer),
+    ("report", RowKind::Report),
+    ("order", RowKind::Order),
+    ("explain", RowKind::Explain),
+    ("cost", RowKind::Cost),
+    ("parsed", RowKind::Parsed),
+    ("refused", RowKind::Refused),
 ];
 
-impl Kind {
+impl RowKind {
     /// Returns the kind of a word, if it is one.
-    pub fn of(word: &str) -> Option<Kind> {
+    pub fn of(word: &str) -> Option<RowKind> {
         for (name, kind) in WORDS.iter() {
             if *name == word {
                 return Some(*kind);

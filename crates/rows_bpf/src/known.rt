@@ -13,7 +13,7 @@ use interval::{Bounds, Domain, Refined, Test};
 
 /// What is known of a number.
 #[derive(Clone, Copy, Debug, PartialEq, Eq)]
-pub enum Known {
+pub enum KnownNumber {
     Exact(u64),
     Unknown,
 }
@@ -28,77 +28,93 @@ fn passes(test: Test, width: Width, a: u64, b: u64) -> bool
     }
 }
 
-impl Domain for Known {
-    ghost use Rattle.rows_bpf.specs.declared.known.Known.TheVariants.{Exact, Unknown};
+impl Domain for KnownNumber {
+    ghost use Rattle.rows_bpf.specs.declared.known.KnownNumber.TheVariants.{Exact, Unknown};
 
     ghost ops = { record {
       top = Unknown;
       exact = Exact;
       range = λ lo hi. if lo == hi then Exact lo else Unknown;
       bounds = elim [ Exact n ↦ record { lo = n; hi = n } | Unknown ↦ record { lo = 0; hi = 2 ^ 64 - 1 } ];
-      alu = λ op w. elim [ Exact m ↦ elim [ Exact n ↦ Exact (alu op w m n) | Unknown ↦ Unknown ] | Unknown ↦ λ y. Unknown ];
+      alu = λ op w. elim [
+        | Exact m ↦ elim [ Exact n ↦ Exact (alu op w m n) | Unknown ↦ Unknown ]
+        | Unknown ↦ λ y. Unknown
+      ];
       unary = λ op. elim [ Exact n ↦ Exact (unary op n) | Unknown ↦ Unknown ];
       refine = λ test w. elim [
-        | Exact m ↦ elim [ Exact n ↦ if passes test w m n then Some (Exact m, Exact n) else None | Unknown ↦ Some (Exact m, Unknown) ]
+        | Exact m ↦ elim [
+          | Exact n ↦ if passes test w m n then Some (Exact m, Exact n) else None
+          | Unknown ↦ Some (Exact m, Unknown)
+        ]
         | Unknown ↦ λ y. Some (Unknown, y)
       ];
-      covers = elim [ Exact m ↦ elim [ Exact n ↦ m == n | Unknown ↦ false ] | Unknown ↦ elim [ Exact n ↦ nat_lt n (2 ^ 64) | Unknown ↦ true ] ];
+      covers = elim [
+        | Exact m ↦ elim [ Exact n ↦ m == n | Unknown ↦ false ]
+        | Unknown ↦ elim [ Exact n ↦ nat_lt n (2 ^ 64) | Unknown ↦ true ]
+      ];
     } };
 
     ghost Member = { elim [ Exact m ↦ λ n. (n < 2 ^ 64) × (m ≡ n) | Unknown ↦ λ n. n < 2 ^ 64 ] };
 
-    fn top() -> Known {
-        Known::Unknown
+    fn top() -> KnownNumber {
+        KnownNumber::Unknown
     }
 
-    fn exact(n: u64) -> Known {
-        Known::Exact(n)
+    fn exact(n: u64) -> KnownNumber {
+        KnownNumber::Exact(n)
     }
 
-    fn range(lo: u64, hi: u64) -> Known {
+    fn range(lo: u64, hi: u64) -> KnownNumber {
         if lo == hi {
-            Known::Exact(lo)
+            KnownNumber::Exact(lo)
         } else {
-            Known::Unknown
+            KnownNumber::Unknown
         }
     }
 
     fn bounds(self) -> Bounds {
         match self {
-            Known::Exact(n) => Bounds { lo: n, hi: n },
-            Known::Unknown => Bounds {
+            KnownNumber::Exact(n) => Bounds { lo: n, hi: n },
+            KnownNumber::Unknown => Bounds {
                 lo: 0,
                 hi: u64::MAX,
             },
         }
     }
 
-    fn alu(op: AluOp, width: Width, a: Known, b: Known) -> Known {
+    fn alu(op: AluOp, width: Width, a: KnownNumber, b: KnownNumber) -> KnownNumber {
         match (a, b) {
-            (Known::Exact(m), Known::Exact(n)) => Known::Exact(insn::alu(op, width, m, n)),
-            _ => Known::Unknown,
+            (KnownNumber::Exact(m), KnownNumber::Exact(n)) => KnownNumber::Exact(insn::alu(
+                op, width, m, n,
+            )),
+            _ => KnownNumber::Unknown,
         }
     }
 
-    fn unary(op: UnaryOp, a: Known) -> Known {
+    fn unary(op: UnaryOp, a: KnownNumber) -> KnownNumber {
         match a {
-            Known::Exact(n) => Known::Exact(insn::unary(op, n)),
-            Known::Unknown => Known::Unknown,
+            KnownNumber::Exact(n) => KnownNumber::Exact(insn::unary(op, n)),
+            KnownNumber::Unknown => KnownNumber::Unknown,
         }
     }
 
-    fn refine(test: Test, width: Width, a: Known, b: Known) -> Option<Refined<Known>> {
+    fn refine(
+        test: Test,
+        width: Width,
+        a: KnownNumber,
+        b: KnownNumber,
+    ) -> Option<Refined<KnownNumber>> {
         match (a, b) {
-            (Known::Exact(m), Known::Exact(n)) if !passes(test, width, m, n) => None,
+            (KnownNumber::Exact(m), KnownNumber::Exact(n)) if !passes(test, width, m, n) => None,
             _ => Some(Refined { a, b }),
         }
     }
 
-    fn covers(self, other: Known) -> bool {
+    fn covers(self, other: KnownNumber) -> bool {
         match (self, other) {
-            (Known::Unknown, _) => true,
-            (Known::Exact(m), Known::Exact(n)) => m == n,
-            (Known::Exact(_), Known::Unknown) => false,
+            (KnownNumber::Unknown, _) => true,
+            (KnownNumber::Exact(m), KnownNumber::Exact(n)) => m == n,
+            (KnownNumber::Exact(_), KnownNumber::Unknown) => false,
         }
     }
 
@@ -107,7 +123,8 @@ impl Domain for Known {
       top = λ n h. h;
       exact = λ n h. (h, refl);
       range = λ lo hi n lt above below.
-          cond_both (lo == hi) (Exact lo) Unknown (λ x. (elim x as (λ _. ℕ → Type 0) [ Exact m ↦ λ n. (n < 2 ^ 64) × (m ≡ n) | Unknown ↦ λ n. n < 2 ^ 64 ]) n)
+          cond_both (lo == hi) (Exact lo) Unknown
+          (λ x. (elim x as (λ _. ℕ → Type 0) [ Exact m ↦ λ n. (n < 2 ^ 64) × (m ≡ n) | Unknown ↦ λ n. n < 2 ^ 64 ]) n)
           (λ e. (Prim.omega (arith, below), Prim.omega (arith, eqb-true lo hi e)))
           (λ e. Prim.omega (arith, below));
       bounds = elim [
@@ -145,11 +162,15 @@ impl Domain for Known {
       ];
       covered_between = elim [
         | Exact a ↦ elim [
-          | Exact b ↦ λ e. let same = eqb-true a b e in (Prim.omega (arith, same), Prim.omega arith, Prim.omega (arith, same))
+          | Exact b ↦ λ e.
+              let same = eqb-true a b e in
+              (Prim.omega (arith, same), Prim.omega arith, Prim.omega (arith, same))
           | Unknown ↦ λ e. absurd (true≢false (sym e))
         ]
         | Unknown ↦ elim [
-          | Exact b ↦ λ e. let word = ltb-true b (2 ^ 64) e in (Prim.omega arith, Prim.omega arith, Prim.omega (arith, word))
+          | Exact b ↦ λ e.
+              let word = ltb-true b (2 ^ 64) e in
+              (Prim.omega arith, Prim.omega arith, Prim.omega (arith, word))
           | Unknown ↦ λ e. (Prim.omega arith, Prim.omega arith, Prim.omega arith)
         ]
       ];

@@ -4,7 +4,7 @@ use anyhow::{Context, Result};
 
 /// A line of a file of rows.
 #[derive(Clone, Copy, Debug, PartialEq, Eq)]
-pub enum Line<'a> {
+pub enum RowLine<'a> {
     /// An empty line, or a comment.
     Blank,
     /// The heading of a section, with its name.
@@ -15,25 +15,25 @@ pub enum Line<'a> {
     Row,
 }
 
-impl<'a> Line<'a> {
+impl<'a> RowLine<'a> {
     /// Parses a line.
     ///
     /// # Errors
     /// Where a line that begins with `let` gives no name or no text.
-    pub fn parse(line: &'a str) -> Result<Line<'a>> {
+    pub fn parse(line: &'a str) -> Result<RowLine<'a>> {
         if line.is_empty() || line.starts_with('#') {
-            return Ok(Line::Blank);
+            return Ok(RowLine::Blank);
         }
         if let Some(named) = line.strip_prefix("let ") {
             let (name, text) = named.split_once(" = ").context("no ` = `")?;
-            return Ok(Line::Let { name, text });
+            return Ok(RowLine::Let { name, text });
         }
         match line
             .strip_prefix('[')
             .and_then(|rest| rest.strip_suffix(']'))
         {
-            Some(name) => Ok(Line::Section(name)),
-            None => Ok(Line::Row),
+            Some(name) => Ok(RowLine::Section(name)),
+            None => Ok(RowLine::Row),
         }
     }
 }

@@ -10,33 +10,33 @@ use std::alloc::{AllocError, Global};
 
 /// What an instruction does with abstract numbers.
 #[derive(Clone, Copy, Debug)]
-enum Operator {
+enum RowOperator {
     Alu(AluOp, Width),
     Unary(UnaryOp),
     Compare(Condition, Width),
 }
 
 /// Returns the operator of an instruction, if it has one.
-fn operator_in(insn: Insn) -> Option<Operator> {
+fn operator_in(insn: Insn) -> Option<RowOperator> {
     match insn {
-        Insn::Alu { width, op, .. } => Some(Operator::Alu(op, width)),
-        Insn::Mov { width, .. } => Some(Operator::Unary(UnaryOp::Mov(width))),
-        Insn::Neg { width, .. } => Some(Operator::Unary(UnaryOp::Neg(width))),
+        Insn::Alu { width, op, .. } => Some(RowOperator::Alu(op, width)),
+        Insn::Mov { width, .. } => Some(RowOperator::Unary(UnaryOp::Mov(width))),
+        Insn::Neg { width, .. } => Some(RowOperator::Unary(UnaryOp::Neg(width))),
         Insn::SignExtend { extension, .. } => {
-            Some(Operator::Unary(UnaryOp::SignExtend(extension)))
+            Some(RowOperator::Unary(UnaryOp::SignExtend(extension)))
         }
-        Insn::Swap { op, size, .. } => Some(Operator::Unary(UnaryOp::Swap(op, size))),
+        Insn::Swap { op, size, .. } => Some(RowOperator::Unary(UnaryOp::Swap(op, size))),
         Insn::JumpIf {
             width,
             condition,
             ..
-        } => Some(Operator::Compare(condition, width)),
+        } => Some(RowOperator::Compare(condition, width)),
         _ => None,
     }
 }
 
 /// Returns the operator of a mnemonic: that of an instruction with two registers, with one, or with two and a distance.
-fn operator_of(alloc: Global, mnemonic: &str) -> Result<Operator> {
+fn operator_of(alloc: Global, mnemonic: &str) -> Result<RowOperator> {
     for operands in ["r0, r1", "r0", "r0, r1, +0"] {
         let text = format!(in alloc; "{mnemonic} {operands}")?;
         if let Ok(insn) = insn_of(alloc, &text) {
@@ -89,15 +89,15 @@ fn result_of<D: Domain>(
     expected: &str,
 ) -> Result<String> {
     match operator_of(alloc, mnemonic)? {
-        Operator::Alu(op, width) => {
+        RowOperator::Alu(op, width) => {
             let (a, b) = pair_of::<D>(operands)?;
             Ok(text_of(alloc, D::alu(op, width, a, b), expected)?)
         }
-        Operator::Unary(op) => {
+        RowOperator::Unary(op) => {
             let a = abstract_number::<D>(operands)?;
             Ok(text_of(alloc, D::unary(op, a), expected)?)
         }
-        Operator::Compare(condition, width) => {
+        RowOperator::Compare(condition, width) => {
             left::<D>(alloc, condition, width, operands, expected)
         }
     }

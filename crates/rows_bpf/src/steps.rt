@@ -4,7 +4,7 @@ ghost use Rattle.std.specs.Prelude.{◌≤◌};
 ghost use Rattle.insn.specs.Encoding.{slot_count};
 ghost use Rattle.insn.specs.declared.decoding.TheConstants.{MAX_SLOTS};
 
-use crate::known::Known;
+use crate::known::KnownNumber;
 use crate::line::Row;
 use crate::program::file_of;
 use crate::verdicts::{over_both, verdict_over};
@@ -60,7 +60,7 @@ fn steps_over<D: Domain>(alloc: Global, code: &[Insn]) -> Result<String, AllocEr
 pub fn counted_steps(alloc: Global, row: &Row<'_>) -> Result<String> {
     let file = file_of(alloc, row.given)?;
     let code = decode(alloc, &file)?;
-    let known = steps_over::<Known>(alloc, &code)?;
+    let known = steps_over::<KnownNumber>(alloc, &code)?;
     let intervals = steps_over::<Interval>(alloc, &code)?;
     Ok(over_both(alloc, &known, &intervals)?)
 }

@@ -4,7 +4,7 @@ ghost use Rattle.std.specs.Prelude.{◌≡◌, ◌<◌, ◌≤◌};
 ghost use Rattle.insn.specs.Encoding.{slot_count};
 ghost use Rattle.insn.specs.declared.decoding.TheConstants.{MAX_SLOTS};
 
-use crate::known::Known;
+use crate::known::KnownNumber;
 use crate::line::Row;
 use crate::program::file_of;
 use crate::reports::Printed;
@@ -120,7 +120,7 @@ pub fn over_both(alloc: Global, known: &str, intervals: &str) -> Result<String, 
 pub fn over_domains(alloc: Global, row: &Row<'_>) -> Result<String> {
     let file = file_of(alloc, row.given)?;
     let code = decode(alloc, &file)?;
-    let known = line_of(alloc, verdict_over::<Known>(alloc, &code, BUDGET))?;
+    let known = line_of(alloc, verdict_over::<KnownNumber>(alloc, &code, BUDGET))?;
     let intervals = line_of(alloc, verdict_over::<Interval>(alloc, &code, BUDGET))?;
     Ok(over_both(alloc, &known, &intervals)?)
 }

@@ -2,7 +2,7 @@
 //! them.
 
 use crate::relays::shipped;
-use crate::wire::{Fate, Wire};
+use crate::wire::{Fate, StoringLink};
 use anyhow::{Context, Result, ensure};
 use events::{Parsed, Source, parse};
 use relay::Relay;
@@ -21,7 +21,7 @@ const FIRST: u64 = 1000;
 const LATER: u64 = 1_000_000;
 
 /// An event and its answer, a line each.
-type Exchange<'a> = (&'a str, &'a str);
+type EventLines<'a> = (&'a str, &'a str);
 
 /// Serves the datagram of an event, at another moment if there is one, and returns what came of it.
 fn serve(
@@ -39,7 +39,7 @@ fn serve(
         Source::Client(client) => (Place::Client, client),
         Source::Peer { slot, addr } => (Place::Slot(slot), addr),
     };
-    let mut wire = Wire::new(alloc, from, &room[..n], fate, log);
+    let mut wire = StoringLink::new(alloc, from, &room[..n], fate, log);
     let now = now.unwrap_or(meta.now);
     let served = serve_once(relay, &mut wire, endpoint, now, meta.tx);
     ensure!(wire.stores_all(), "no room for a call");
@@ -48,13 +48,18 @@ fn serve(
 
 /// What was sent for the events of a session, and what came of one of them.
 #[derive(Drop)]
-struct Outcome {
+struct ServedSession {
     sent: Vec<u8>,
     served: Result<bool, ServeError>,
 }
 
 /// Serves all events, that of one index with another fate.
-fn serve_all(alloc: Global, session: &[Exchange<'_>], index: usize, fate: Fate) -> Result<Outcome> {
+fn serve_all(
+    alloc: Global,
+    session: &[EventLines<'_>],
+    index: usize,
+    fate: Fate,
+) -> Result<ServedSession> {
     let mut relay = shipped(alloc)?;
     let mut sent = Vec::new(alloc);
     let mut served = Ok(false);
@@ -65,13 +70,13 @@ fn serve_all(alloc: Global, session: &[Exchange<'_>], index: usize, fate: Fate) 
             served = serve(alloc, &mut relay, event, (fate, None), &mut sent)?;
         }
     }
-    Ok(Outcome { sent, served })
+    Ok(ServedSession { sent, served })
 }
 
 /// Returns the answers that are sent, but that of one event.
 fn answers_without(
     alloc: Global,
-    session: &[Exchange<'_>],
+    session: &[EventLines<'_>],
     index: usize,
 ) -> Result<Vec<u8>, AllocError> {
     let mut lines = Vec::new(alloc);
@@ -86,7 +91,7 @@ fn answers_without(
 
 /// Checks that what is sent where a receive fails is as if its event had been lost, and where a send fails, as if its
 /// answer had been sent and lost.
-fn check_failure(alloc: Global, session: &[Exchange<'_>], index: usize) -> Result<()> {
+fn check_failure(alloc: Global, session: &[EventLines<'_>], index: usize) -> Result<()> {
     let lost = serve_all(alloc, session, index, Fate::Lost)?;
     let unreceived = serve_all(alloc, session, index, Fate::ReceiveFails)?;
     ensure!(unreceived.sent == lost.sent, "receive {index}");
@@ -103,7 +108,7 @@ fn check_failure(alloc: Global, session: &[Exchange<'_>], index: usize) -> Resul
 }
 
 /// Checks each event of a session, and that without a failure all answers are sent.
-pub fn check_failures(alloc: Global, session: &[Exchange<'_>]) -> Result<()> {
+pub fn check_failures(alloc: Global, session: &[EventLines<'_>]) -> Result<()> {
     for index in 0..=session.len() {
         check_failure(alloc, session, index)?;
     }
@@ -156,7 +161,7 @@ fn take_turn(
 }
 
 /// Checks the answer of a relay to an event that is served.
-fn check_answer(alloc: Global, relay: &mut Relay, (event, answer): Exchange<'_>) -> Result<()> {
+fn check_answer(alloc: Global, relay: &mut Relay, (event, answer): EventLines<'_>) -> Result<()> {
     let sent = take_turn(alloc, relay, event, SERVED)?;
     let is_sent = sent.strip_suffix(b"\n") == Some(answer.as_bytes());
     ensure!(is_sent, "again: {event}");
@@ -189,7 +194,7 @@ impl Pair {
     }
 
     /// Checks that an event whose answer isn't sent leaves the tables as they are after it.
-    fn check_event(&mut self, alloc: Global, (event, answer): Exchange<'_>) -> Result<()> {
+    fn check_event(&mut self, alloc: Global, (event, answer): EventLines<'_>) -> Result<()> {
         self.check_unreceived(alloc, event)?;
         let unsent = if answer == "-" {
             Ok(true)
@@ -207,7 +212,7 @@ impl Pair {
     }
 
     /// Checks each event of a session.
-    pub fn check_all(&mut self, alloc: Global, session: &[Exchange<'_>]) -> Result<()> {
+    pub fn check_all(&mut self, alloc: Global, session: &[EventLines<'_>]) -> Result<()> {
         for &event in session {
             self.check_event(alloc, event)?;
         }
@@ -215,7 +220,7 @@ impl Pair {
     }
 
     /// Checks that both relays answer an event once more, with the same nonce.
-    fn check_again(&mut self, alloc: Global, exchange: Exchange<'_>) -> Result<()> {
+    fn check_again(&mut self, alloc: Global, exchange: EventLines<'_>) -> Result<()> {
         let (event, _) = exchange;
         self.check_unreceived(alloc, event)?;
         check_answer(alloc, &mut self.failing, exchange)?;
@@ -225,7 +230,7 @@ impl Pair {
 
     /// Checks that the first events of a session are answered once more, and returns the end of the allocation of slot
     /// 0, which is counted from the greatest moment of the events that came.
-    pub fn end_again(&mut self, alloc: Global, session: &[Exchange<'_>]) -> Result<u64> {
+    pub fn end_again(&mut self, alloc: Global, session: &[EventLines<'_>]) -> Result<u64> {
         for &event in session {
             self.check_again(alloc, event)?;
         }

@@ -9,8 +9,8 @@ mod wire;
 
 use anyhow::Result;
 use rows::check_input;
-use sections::State;
+use sections::RowsState;
 
 fn main(rt: HostRuntime) -> Result<()> {
-    check_input(&rt, State::new())
+    check_input(&rt, RowsState::new())
 }

@@ -10,22 +10,22 @@ use std::alloc::Global;
 
 /// What rows leave to those that follow.
 #[derive(Drop)]
-pub struct State {
+pub struct RowsState {
     relays: Option<Relays>,
     schedule: Option<Schedule>,
 }
 
-impl State {
+impl RowsState {
     /// Returns the state before the first row.
-    pub fn new() -> State {
-        State {
+    pub fn new() -> RowsState {
+        RowsState {
             relays: None,
             schedule: None,
         }
     }
 }
 
-impl Sections for State {
+impl Sections for RowsState {
     fn answer(&mut self, alloc: Global, section: &str, row: &Row<'_>) -> Result<String> {
         match section {
             "relay" => relays::answer(alloc, &mut self.relays, row),

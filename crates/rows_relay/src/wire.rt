@@ -29,7 +29,7 @@ pub enum Fate {
 
 /// A call of a link, as it is stored.
 #[derive(Drop)]
-pub enum Entry {
+pub enum StoredCall {
     /// A receive, with the bytes that the buffer has afterwards.
     Received {
         endpoint: Place,
@@ -47,14 +47,14 @@ pub enum Entry {
 
 /// A link with one datagram, which stores its calls, and writes the line of what is sent to a log.
 #[derive(Drop)]
-pub struct Wire<'a> {
+pub struct StoringLink<'a> {
     alloc: Global,
     from: Addr,
     datagram: &'a [u8],
     fate: Fate,
     log: &'a mut Vec<u8>,
     /// The calls so far.
-    entries: Vec<Entry>,
+    entries: Vec<StoredCall>,
     /// Whether a call had no room among the entries.
     is_full: bool,
 }
@@ -68,7 +68,7 @@ fn copied(alloc: Global, bytes: &[u8]) -> Result<Vec<u8>, AllocError>
     Ok(copy)
 }
 
-impl<'a> Wire<'a> {
+impl<'a> StoringLink<'a> {
     /// Returns a link with a datagram, and an address that it comes from, which no call was made of.
     pub fn new(
         alloc: Global,
@@ -76,8 +76,8 @@ impl<'a> Wire<'a> {
         datagram: &'a [u8],
         fate: Fate,
         log: &'a mut Vec<u8>,
-    ) -> Wire<'a> {
-        Wire {
+    ) -> StoringLink<'a> {
+        StoringLink {
             alloc,
             from,
             datagram,
@@ -94,7 +94,7 @@ impl<'a> Wire<'a> {
     }
 }
 
-impl Wire<'_> {
+impl StoringLink<'_> {
     ghost use Rattle.std.specs.Prelude.{◌≡◌};
 
     /// Writes the datagram over the first bytes of a buffer, if it comes.
@@ -136,7 +136,7 @@ impl Wire<'_> {
     }
 }
 
-impl Link for Wire<'_> {
+impl Link for StoringLink<'_> {
     ghost use Rattle.rows_relay.specs.Stored.{calls_stored};
 
     ghost calls = { λ w. calls_stored w.is_full w.entries.items };
@@ -151,7 +151,7 @@ impl Link for Wire<'_> {
             self.is_full = true;
             return answer;
         };
-        let entry = Entry::Received {
+        let entry = StoredCall::Received {
             endpoint,
             buffer,
             answer,
@@ -166,7 +166,7 @@ impl Link for Wire<'_> {
             self.is_full = true;
             return answer;
         };
-        let entry = Entry::Sent {
+        let entry = StoredCall::Sent {
             endpoint,
             to,
             bytes,

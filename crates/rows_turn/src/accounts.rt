@@ -96,7 +96,7 @@ fn text_or_empty(alloc: Global, row: &Row<'_>, key: &str) -> Result<String> {
 
 /// What the credentials of a row's message are checked against.
 #[derive(Drop)]
-struct Accounts {
+struct RowAccounts {
     realm: String,
     nonce: String,
     users: Vec<User>,
@@ -105,10 +105,10 @@ struct Accounts {
     held: Option<usize>,
 }
 
-impl Accounts {
+impl RowAccounts {
     /// Returns what a row says: `realm`, `nonce`, each `user`, `secret`, the moment as `at`, and the user whose
     /// allocation the client has as `holds`.
-    fn of(alloc: Global, row: &Row<'_>) -> Result<Accounts> {
+    fn of(alloc: Global, row: &Row<'_>) -> Result<RowAccounts> {
         let mut users = Vec::new(alloc);
         add_users(alloc, &mut users, row)?;
         let secret = match row.get("secret") {
@@ -119,7 +119,7 @@ impl Accounts {
             Some(digits) => Some(usize::from_str_radix(digits, 16)?),
             None => None,
         };
-        Ok(Accounts {
+        Ok(RowAccounts {
             realm: text_or_empty(alloc, row, "realm")?,
             nonce: text_or_empty(alloc, row, "nonce")?,
             users,
@@ -164,7 +164,7 @@ fn account_key(alloc: Global, checked: Result<Authenticated, AuthError>) -> Resu
 
 /// Returns the answer to a row whose message has credentials.
 fn checked(alloc: Global, row: &Row<'_>) -> Result<String> {
-    let accounts = Accounts::of(alloc, row)?;
+    let accounts = RowAccounts::of(alloc, row)?;
     let message = message_of(alloc, row)?;
     let message = read(&message)?;
     match row.kind {

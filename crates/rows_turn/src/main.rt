@@ -15,8 +15,8 @@ mod values;
 
 use anyhow::Result;
 use rows::check_input;
-use sections::State;
+use sections::RowsState;
 
 fn main(rt: HostRuntime) -> Result<()> {
-    check_input(&rt, State::new())
+    check_input(&rt, RowsState::new())
 }

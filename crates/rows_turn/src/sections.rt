@@ -14,16 +14,16 @@ use tables::Tables;
 
 /// What rows leave to those that follow.
 #[derive(Drop)]
-pub struct State {
+pub struct RowsState {
     control: Option<Control>,
     order: Option<Order>,
     tables: Option<Tables>,
 }
 
-impl State {
+impl RowsState {
     /// Returns the state before the first row.
-    pub fn new() -> State {
-        State {
+    pub fn new() -> RowsState {
+        RowsState {
             control: None,
             order: None,
             tables: None,
@@ -31,7 +31,7 @@ impl State {
     }
 }
 
-impl Sections for State {
+impl Sections for RowsState {
     fn answer(&mut self, alloc: Global, section: &str, row: &Row<'_>) -> Result<String> {
         match section {
             "registry" => registry::answer(alloc, row),
