@@ -152,7 +152,7 @@ with_marks a i count = record a { registers = without_groups a.registers count i
 abbrev pub abstract_with_pointer : {D : Type 0} → AbsState D → ℕ → AbstractValue D → AbsState D
 abstract_with_pointer a g k = record a { registers = slice_set a.registers (group_index g) k; marks = unmarked_from a.marks (GROUP_BYTES * g) GROUP_BYTES }
 
--- the state after a call with an answer: r1 to r5 hold nothing
+-- the state after a call with an answer: r1 to r5 are uninitialised
 abbrev pub with_answer : {D : Type 0} → AbsState D → D → AbsState D
 with_answer a answer = with_value (with_value (with_value (with_value (with_value (with_value a R0 (Scalar answer)) R1 Nothing) R2 Nothing) R3 Nothing) R4 Nothing) R5 Nothing
 

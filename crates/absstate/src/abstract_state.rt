@@ -30,7 +30,7 @@ pub enum Anchor {
 /// The abstract value of a register. A number is one of a numeric domain `D`.
 #[derive(Debug, PartialEq, Eq)]
 pub enum AbstractValue<D> {
-    /// Nothing is known; the register may hold nothing.
+    /// Nothing is known; the register may be uninitialised.
     Nothing,
     /// A number.
     Scalar(D),
@@ -362,7 +362,7 @@ impl<D: Copy> AbsState<D> {
         self.marks.unset_group(group);
     }
 
-    /// Writes the answer of a call to `r0`; `r1` to `r5` hold nothing afterwards.
+    /// Writes the answer of a call to `r0`; `r1` to `r5` are uninitialised afterwards.
     pub(crate) fn set_answer(&mut self, answer: D)
         ensures { self.new ≡ with_answer self.old answer }
     {

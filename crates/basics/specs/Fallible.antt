@@ -6,6 +6,6 @@ abbrev pub ◌>>=◌ : {A B E : Type 0} → Result A E → (A → Result B E) �
 (Ok x) >>= f = f x
 (Err error) >>= f = Err error
 
--- goes on where the test passes
+-- continues where the test passes
 abbrev pub check : {E : Type 0} → Bool → E → Result (Unit {0}) E
 check passed error = if passed then Ok tt else Err error

@@ -6,6 +6,6 @@ abbrev pub ◌>>=◌ : {A B : Type 0} → Option A → (A → Option B) → Opti
 None >>= f = None
 (Some x) >>= f = f x
 
--- goes on where the test passes
+-- continues where the test passes
 abbrev pub guard : Bool → Option (Unit {0})
 guard passed = if passed then Some tt else None

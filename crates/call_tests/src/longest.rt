@@ -65,8 +65,8 @@ fn ordered(rt: &impl Abort, alloc: Global, code: &[Insn]) -> Result<Vec<Insn>, O
     }
 }
 
-/// Returns a program of `first` + 3n + 2 slots, which needs `first` + 4n + 1 in order: so many instructions that go on
-/// to the next one, and n conditional jumps, each with an exit after it that is placed before it, so that each
+/// Returns a program of `first` + 3n + 2 slots, which needs `first` + 4n + 1 in order: so many instructions that
+/// continue to the next one, and n conditional jumps, each with an exit after it that is placed before it, so that each
 /// fall-through except the last is lost.
 fn chain(alloc: Global, first: usize, n: i16) -> Result<Vec<Insn>, AllocError> {
     let mut code = Vec::new(alloc);

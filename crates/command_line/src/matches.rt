@@ -184,7 +184,7 @@ fn sockets_of<'a>(matches: &'a ArgMatches<'_>) -> Result<SocketValues, OptionErr
     })
 }
 
-/// What a server does from time to time, and how much it records.
+/// What a server does periodically, and how much it records.
 #[derive(Clone, Copy)]
 struct Limits {
     nonce_lifetime: u64,

@@ -103,7 +103,7 @@ pub record IsCheckedAnswer (config : Config) (now : ℕ) (turn : TurnRequest) (c
   pub answer : IsAnswer config (request.Turn turn) client p (key_for checked) (decision turn (user_in checked) config client p (rows_at now old)) old new written
   pub response : says ≡ response_of (user_in checked) (decision turn (user_in checked) config client p (rows_at now old))
 
--- the answer to a request: that to Binding is not signed, since its credentials are not looked at
+-- the answer to a request: that to Binding is not signed, since its credentials are ignored
 abbrev pub Answers : Config → ℕ → Request → Addr → Parts → Rows → Rows → List ℕ → Response → Type 0
 Answers config now request.Binding client p old new written says =
     IsAnswer config request.Binding client p None (binding p) old new written × (says ≡ response_of_result (grant_of (binding p)))

@@ -1,4 +1,4 @@
--- Internal. What the search keeps: the path at hand, and for each state that waits how much of the path leads to it.
+-- Internal. What the search keeps: the current path, and for each state that waits how much of the path leads to it.
 use Rattle.std.specs.Prelude.{◌≡◌, ℕ, ◌≤◌, List, [], ◌∷◌, ◌++◌, length, reverse, take, All}
 use Rattle.insn.specs.declared.instruction.Insn.{Insn}
 use Rattle.interval.specs.Intervals.{interval_ops}

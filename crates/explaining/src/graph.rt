@@ -115,7 +115,7 @@ fn marked_path(
     Ok(marks)
 }
 
-/// Returns the slot of the next block, where an instruction is the last one of its block and may go on there.
+/// Returns the slot of the next block, where an instruction is the last one of its block and may continue there.
 fn next_block(program: &Program, starts: &[bool], slot: usize, insn: Insn) -> Option<usize>
     requires { slot < MAX_SLOTS }
 {

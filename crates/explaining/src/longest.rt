@@ -23,7 +23,7 @@ fn count_at(counts: &[usize], slot: usize) -> usize
     }
 }
 
-/// Returns the count of the slot after an instruction, 0 where it never goes on there.
+/// Returns the count of the slot after an instruction, 0 where it never continues there.
 fn count_of_next(counts: &[usize], slot: usize, insn: Insn) -> usize
     requires { slot < MAX_SLOTS }
     ensures { (code : List Insn) → result ≡ count_by code counts.now slot insn NotTaken }

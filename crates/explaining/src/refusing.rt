@@ -46,7 +46,7 @@ fn value_of(state: &State, width: Width, operand: Operand) -> AbstractValue<Inte
     }
 }
 
-/// Returns the first register of a call's arguments that holds nothing; `r0` where each holds something.
+/// Returns the first register of a call's arguments that is uninitialised; `r0` where each holds something.
 fn empty_argument(state: &State) -> Reg {
     for reg in [Reg::R1, Reg::R2, Reg::R3, Reg::R4, Reg::R5] {
         if value_in(state, reg) == AbstractValue::Nothing {
@@ -56,7 +56,7 @@ fn empty_argument(state: &State) -> Reg {
     Reg::R0
 }
 
-/// Returns the register that is read and holds nothing.
+/// Returns the register that is read and is uninitialised.
 fn empty_register(state: &State, insn: Insn) -> Reg {
     match registers_read(insn) {
         (Some(first), _) if value_in(state, first) == AbstractValue::Nothing => first,

@@ -1,4 +1,4 @@
-//! The search: a walk that keeps the path to the state at hand.
+//! The search: a walk that keeps the path to the current state.
 
 ghost use Rattle.std.specs.Prelude.{◌≡◌, ℕ, ◌-◌, ◌≤◌, ◌++◌, List, [], ◌∷◌, length, take, replicate, All, IfOk, IfErr, OnOk};
 ghost use Rattle.insn.specs.Encoding.{slot_count};
@@ -135,7 +135,7 @@ impl Trail {
     }
 }
 
-/// Verifies a program with intervals, as [`verify`](verifier::verify) does, and keeps the path to the state at hand.
+/// Verifies a program with intervals, as [`verify`](verifier::verify) does, and keeps the path to the current state.
 ///
 /// # Errors
 /// Where memory runs out for the path. Where it runs out for the walk, the verdict is V19.

@@ -26,12 +26,12 @@ abbrev pub IsLoadEnd : List Insn → Result Loaded Refusal → Type 0
 IsLoadEnd code (Ok loaded) = (loaded ≡ code) × IsSafe code × IsWalked {T = Loaded} code (Ok loaded)
 IsLoadEnd code (Err e) = MayRefuse code BUDGET e × IsWalked {T = Loaded} code (Err e)
 
--- after a slice the walk goes on with the same program, and less work is left
+-- after a slice the walk continues with the same program, and less work is left
 pub record HasMoreWork (w : Walking Interval) (slice : ℕ) (next : Walking Interval) : Type 0 where
   pub code_is : next.code ≡ w.code
   pub less : work_left next + slice ≤ work_left w
 
--- it goes on, and may weigh so much less; or it would go on, and weighs what it may; or it has ended
+-- it continues, and may weigh so much less; or it would continue, and weighs what it may; or it has ended
 abbrev pub IsLoadSlice : LoadingWalk → ℕ → LoadProgress → Type 0
 IsLoadSlice l slice (progress.Going next) = HasMoreWork l.walk slice next.walk × (next.left + slice ≡ l.left) × (0 < next.left)
 IsLoadSlice l slice (progress.GivenUp remains) = (l.left ≤ slice) × (next : Walking Interval) × HasMoreWork l.walk slice next × (remains ≡ units_to_free next.kept)

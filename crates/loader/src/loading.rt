@@ -1,4 +1,4 @@
-//! Loading in slices: a program is decoded at once, and its verification goes on by so much work at a time.
+//! Loading in slices: a program is decoded at once, and its verification continues by so much work at a time.
 
 ghost use Rattle.std.specs.Prelude.{◌≡◌, ◌+◌, ◌<◌, ℕ, List, IfOk, IfErr, IfSome, IfNone};
 ghost use Rattle.insn.specs.Encoding.{Encodes};
@@ -21,7 +21,7 @@ use std::marker::{Brand, Model};
 use std::sync::ledger::{Blank, Ledger};
 use verifier::{Progress, Refusal, Steps, Walk};
 
-/// A program that is being loaded: its bytes are decoded, and its verification goes on in slices.
+/// A program that is being loaded: its bytes are decoded, and its verification continues in slices.
 #[derive(Drop)]
 pub struct Loading {
     walk: Walk<Interval>,
@@ -44,7 +44,7 @@ impl Model for Loading {
 /// What loading has come to after a slice.
 #[derive(Drop)]
 pub enum LoadProgress {
-    /// It goes on.
+    /// It continues.
     Going(Loading),
     /// It is given up: its verification takes too long. What this has kept is still there.
     GivenUp(LoadRemains),
@@ -77,7 +77,7 @@ impl LoadRemains {
     }
 }
 
-/// Goes on by a slice, and counts its steps.
+/// Continues by a slice, and counts its steps.
 fn advanced_by<L: Ledger>(walk: Walk<Interval>, slice: usize, blank: Blank) -> Progress<Interval>
     requires name { blank.name ≡ L.name }
     requires parts { blank.parts ≡ L.parts }
@@ -88,7 +88,7 @@ fn advanced_by<L: Ledger>(walk: Walk<Interval>, slice: usize, blank: Blank) -> P
     walk.advance(slice, &mut steps)
 }
 
-/// Goes on by a slice; nothing counts its steps.
+/// Continues by a slice; nothing counts its steps.
 fn advanced(walk: Walk<Interval>, slice: usize) -> Progress<Interval>
     ensures { IsSliceOf walk slice result }
 {
@@ -127,8 +127,8 @@ impl Loading {
         LoadRemains { states }
     }
 
-    /// Goes on by work of the weight `slice`, or less where the verification ends. Whatever the slices are, it ends as
-    /// [`load`](crate::load) does; or it is given up, where it hasn't ended after slices of the weight [`WEIGHT`] in
+    /// Continues by work of the weight `slice`, or less where the verification ends. Whatever the slices are, it ends
+    /// as [`load`](crate::load) does; or it is given up, where it hasn't ended after slices of the weight [`WEIGHT`] in
     /// all.
     pub fn advance(self, slice: usize) -> LoadProgress
         ensures { IsLoadSlice self slice result }

@@ -46,13 +46,13 @@ abbrev pub MakesStep : Environment → List Insn → Insn → State → State �
 MakesStep w program i old new result =
     result_of old.slot new.registers new.memory new.plan result ≡ step_by_effect w program old i (effect w.context old.memory old.registers i)
 
--- after every effect but a jump and an exit the run goes on to the next instruction
+-- after every effect but a jump and an exit the run continues with the next instruction
 abbrev pub GoesStraight : Effect → Type 0
 GoesStraight (effects.Jump offset) = ⊥
 GoesStraight (effects.Exit verdict) = ⊥
 GoesStraight _ = Unit {0}
 
--- a step goes on to a later position of the program
+-- a step continues at a later position of the program
 pub record GoesAhead (program : List Insn) (at to : Position) : Type 0 where
   pub is_at : IsAt program to
   pub later : at.index < to.index

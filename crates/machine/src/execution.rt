@@ -31,7 +31,7 @@ use semantics::{
 /// The result of one step.
 #[derive(Clone, Copy, Debug, PartialEq, Eq)]
 pub enum StepResult {
-    /// The run goes on at a position.
+    /// The run continues at a position.
     Goes(Position),
     /// The run exits with a verdict.
     Exits(u64),
@@ -90,7 +90,7 @@ fn next_effect<H>(
     effect_of(given.record, &memory, registers, insn)
 }
 
-/// Writes the answer of a call to `r0`. `r1` to `r5` hold nothing afterwards.
+/// Writes the answer of a call to `r0`. `r1` to `r5` are uninitialised afterwards.
 fn answer(registers: &mut Registers, n: u64)
     ensures { registers.new ≡ registers_after_call registers.old n }
 {
@@ -189,7 +189,7 @@ struct TaggedState {
     at: Position,
 }
 
-/// Applies an effect to memory, registers and plan, after which the run goes on to the next instruction.
+/// Applies an effect to memory, registers and plan, after which the run continues with the next instruction.
 fn apply<H: Helpers>(
     given: &TraceInputs<H>,
     stack: &mut StackMemory,

@@ -31,7 +31,7 @@ pub(crate) struct Drops {
     text: Vec<u8>,
     /// How many were dropped before the server began.
     before: u64,
-    /// The counter of IPv4 when it was last looked at, if the system said.
+    /// The counter of IPv4 when it was last read, if the system said.
     ipv4: Option<u64>,
     /// That of IPv6.
     ipv6: Option<u64>,
@@ -65,7 +65,7 @@ impl Drops {
             ipv4: None,
             ipv6: None,
         };
-        drops.look(rt);
+        drops.update(rt);
         drops.before = drops.last().unwrap_or(0);
         Ok(drops)
     }
@@ -105,12 +105,12 @@ impl Drops {
     }
 
     /// Looks at both counters.
-    pub(crate) fn look<R: Files>(&mut self, rt: &R) {
+    pub(crate) fn update<R: Files>(&mut self, rt: &R) {
         self.look_at_ipv4(rt);
         self.look_at_ipv6(rt);
     }
 
-    /// Returns how many datagrams the system had dropped since the server began, when that was last looked at: those
+    /// Returns how many datagrams the system had dropped since the server began, when that was last read: those
     /// for any UDP socket of the network namespace whose buffer was full, of both families. `None` where the system
     /// didn't say.
     pub(crate) fn last(&self) -> Option<u64> {

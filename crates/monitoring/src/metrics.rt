@@ -55,7 +55,7 @@ struct MetricFamily {
 /// The labels of a sample, in order, each with its value.
 type Labels<'a> = &'a [(&'static str, &'static str)];
 
-/// The file that metrics are written to from time to time.
+/// The file that metrics are written to periodically.
 #[derive(Drop)]
 pub struct MetricsFile<'a> {
     path: &'a str,
@@ -352,8 +352,8 @@ impl<'a> MetricsFile<'a> {
     }
 
     /// Returns whether metrics are to be written now.
-    pub(crate) fn is_due(&mut self, now: Duration) -> bool {
-        self.timer.is_due(now)
+    pub(crate) fn fires(&mut self, now: Duration) -> bool {
+        self.timer.fire(now)
     }
 
     /// Makes the text of metrics.

@@ -171,7 +171,7 @@ impl<'a> Reports<'a> {
         }
     }
 
-    /// Prints the line of counters, and how shadows compare, with what the system dropped when that was last looked at.
+    /// Prints the line of counters, and how shadows compare, with what the system dropped when that was last read.
     /// A failure to print is ignored.
     fn print_counters<E: Write>(&self, err: &mut E, of: Observed<'_>) {
         let line = CounterLine {
@@ -182,7 +182,7 @@ impl<'a> Reports<'a> {
         print_shadows(err, of.shadows);
     }
 
-    /// Makes the text of the metrics, if they are wanted, with what the system dropped when that was last looked at.
+    /// Makes the text of the metrics, if they are wanted, with what the system dropped when that was last read.
     fn make_metrics(&mut self, of: Observed<'_>) {
         let dropped = self.drops.last();
         if let Some(file) = &mut self.metrics {
@@ -210,7 +210,7 @@ impl<'a> Reports<'a> {
     /// Where they can't be written.
     pub fn begin<R: Files>(&mut self, rt: &R, of: Observed<'_>) -> io::Result<()> {
         if self.metrics.is_some() {
-            self.drops.look(rt);
+            self.drops.update(rt);
         }
         self.make_metrics(of);
         match &mut self.metrics {
@@ -230,16 +230,16 @@ impl<'a> Reports<'a> {
     }
 
     /// Returns whether a report is due at a time. The next one of its kind is then due one period later.
-    fn is_due(&mut self, report: Report, counters: &Counters, now: Duration) -> bool {
+    fn fires(&mut self, report: Report, counters: &Counters, now: Duration) -> bool {
         match report {
-            Report::Faults => self.has_faults(counters) && self.faults.is_due(now),
+            Report::Faults => self.has_faults(counters) && self.faults.fire(now),
             Report::Counters => match &mut self.stats {
-                Some(timer) => timer.is_due(now),
+                Some(timer) => timer.fire(now),
                 None => false,
             },
-            Report::Shadows => self.shadows.is_due(now),
+            Report::Shadows => self.shadows.fire(now),
             Report::Metrics => match &mut self.metrics {
-                Some(file) => file.is_due(now),
+                Some(file) => file.fires(now),
                 None => false,
             },
         }
@@ -272,7 +272,7 @@ impl<'a> Reports<'a> {
     ) -> bool {
         for _ in 0..Report::COUNT {
             self.report = self.report.next();
-            if self.is_due(self.report, of.counters, now) {
+            if self.fires(self.report, of.counters, now) {
                 self.begin_report(rt, err, of);
                 return true;
             }
@@ -306,7 +306,7 @@ impl<'a> Reports<'a> {
     pub fn end<R: Files, E: Write>(&mut self, rt: &R, err: &mut E, of: Observed<'_>) {
         self.print_faults(err, of.counters);
         if self.stats.is_some() || self.metrics.is_some() {
-            self.drops.look(rt);
+            self.drops.update(rt);
         }
         if self.stats.is_some() {
             self.print_counters(err, of);

@@ -86,7 +86,7 @@ enum RefusalReason {
 
 /// What happened.
 #[derive(Clone, Copy)]
-enum Happening {
+enum LogEvent {
     /// An allocation was made at a slot, for a lifetime in seconds.
     Made { slot: usize, lifetime: u32 },
     /// The allocation at a slot ended.
@@ -106,7 +106,7 @@ struct Counts {
 /// A line of the log. Displays as that.
 #[derive(Clone, Copy)]
 struct LogEntry {
-    happening: Happening,
+    event: LogEvent,
     sender: Sender,
     /// The relayed port of slot 0.
     first_port: u16,
@@ -114,7 +114,7 @@ struct LogEntry {
 
 /// An allocation whose end is still to be logged.
 #[derive(Clone, Copy)]
-struct Open {
+struct OpenAllocation {
     /// Who sent the request that made it.
     sender: Sender,
     /// That of this request.
@@ -127,7 +127,7 @@ struct Open {
 pub struct ServerLog {
     first_port: u16,
     /// For each slot the allocation that was logged and whose end wasn't.
-    open: Vec<Option<Open>>,
+    open: Vec<Option<OpenAllocation>>,
     /// What was added since all was printed.
     entries: Vec<LogEntry>,
     /// How many of these are printed.
@@ -152,7 +152,7 @@ fn message_in(room: &[u8]) -> &[u8] {
 
 impl Name {
     /// Returns a name of bytes.
-    fn of(bytes: &[u8]) -> Name {
+    fn new(bytes: &[u8]) -> Name {
         let mut name = Name {
             bytes: [0; MAX_TEXT],
             count: bytes.len().min(MAX_TEXT),
@@ -177,14 +177,14 @@ impl fmt::Display for Name {
 impl Sender {
     /// Returns who sent the request that is at the start of the room for datagrams. Without a USERNAME the name is
     /// empty.
-    pub fn of(client: Addr, room: &[u8]) -> Sender {
+    pub fn of_request(client: Addr, room: &[u8]) -> Sender {
         let value = match read(message_in(room)) {
             Ok(message) => message.value_of(USERNAME).unwrap_or(&[]),
             Err(_) => &[],
         };
         Sender {
             client,
-            name: Name::of(value),
+            name: Name::new(value),
         }
     }
 }
@@ -212,15 +212,15 @@ impl Counts {
     };
 
     /// Counts a line, unless the period has as many of its kind as it may have. Returns whether it is counted.
-    fn add(&mut self, happening: Happening) -> bool {
-        match happening {
-            Happening::Made { .. } | Happening::Ended { .. } => {
+    fn add(&mut self, event: LogEvent) -> bool {
+        match event {
+            LogEvent::Made { .. } | LogEvent::Ended { .. } => {
                 count_one(&mut self.allocations, ALLOCATION_LINES)
             }
-            Happening::Refused(RefusalReason::WrongPassword | RefusalReason::OtherUser) => {
+            LogEvent::Refused(RefusalReason::WrongPassword | RefusalReason::OtherUser) => {
                 count_one(&mut self.users, USER_LINES)
             }
-            Happening::Refused(
+            LogEvent::Refused(
                 RefusalReason::Incomplete | RefusalReason::UnknownUser | RefusalReason::Expired,
             ) => count_one(&mut self.strangers, STRANGER_LINES),
         }
@@ -236,21 +236,21 @@ impl LogEntry {
 
 impl fmt::Display for LogEntry {
     fn fmt<W: fmt::Write>(&self, f: &mut fmt::Formatter<W>) -> fmt::Result {
-        let what = match self.happening {
-            Happening::Made { .. } => "allocation made",
-            Happening::Ended { .. } => "allocation ended",
-            Happening::Refused(_) => "credentials refused",
+        let what = match self.event {
+            LogEvent::Made { .. } => "allocation made",
+            LogEvent::Ended { .. } => "allocation ended",
+            LogEvent::Refused(_) => "credentials refused",
         };
         write!(f, "{what}: {}, ", self.sender)?;
-        match self.happening {
-            Happening::Made { slot, lifetime } => {
+        match self.event {
+            LogEvent::Made { slot, lifetime } => {
                 let port = self.port(slot);
                 write!(f, "slot {slot}, port {port}, lifetime {lifetime}")
             }
-            Happening::Ended { slot, reason } => {
+            LogEvent::Ended { slot, reason } => {
                 write!(f, "slot {slot}, port {}, {reason}", self.port(slot))
             }
-            Happening::Refused(reason) => write!(f, "{reason}"),
+            LogEvent::Refused(reason) => write!(f, "{reason}"),
         }
     }
 }
@@ -268,7 +268,7 @@ fn refusal_of(response: Response) -> Option<RefusalReason> {
     }
 }
 
-impl Open {
+impl OpenAllocation {
     /// Returns whether it is an allocation of the tables.
     fn is(&self, allocation: &Allocation) -> bool {
         self.sender.client == allocation.client && self.tx == allocation.tx
@@ -303,13 +303,13 @@ impl ServerLog {
     }
 
     /// Adds an entry, unless the period has as many of its kind as it may have.
-    fn add(&mut self, happening: Happening, sender: Sender) {
-        if !self.counts.add(happening) {
+    fn add(&mut self, event: LogEvent, sender: Sender) {
+        if !self.counts.add(event) {
             self.left_out = self.left_out.saturating_add(1);
             return;
         }
         let _ = self.entries.push(LogEntry {
-            happening,
+            event,
             sender,
             first_port: self.first_port,
         });
@@ -318,15 +318,21 @@ impl ServerLog {
     /// Ends the allocation that is open at a slot, if there is one.
     fn end(&mut self, slot: usize, reason: EndReason) {
         if let Some(place) = self.open.get_mut(slot)
-            && let Some(Open { sender, .. }) = *place
+            && let Some(OpenAllocation { sender, .. }) = *place
         {
             *place = None;
-            self.add(Happening::Ended { slot, reason }, sender);
+            self.add(LogEvent::Ended { slot, reason }, sender);
         }
     }
 
     /// Adds the allocation at a slot, unless it was added before: a repeated request is granted again.
-    fn made(&mut self, slot: usize, lifetime: u32, sender: Sender, allocation: &Allocation) {
+    fn on_allocated(
+        &mut self,
+        slot: usize,
+        lifetime: u32,
+        sender: Sender,
+        allocation: &Allocation,
+    ) {
         if let Some(Some(open)) = self.open.get(slot)
             && open.is(allocation)
         {
@@ -334,17 +340,17 @@ impl ServerLog {
         }
         self.end(slot, EndReason::Expired);
         if let Some(place) = self.open.get_mut(slot) {
-            *place = Some(Open {
+            *place = Some(OpenAllocation {
                 sender,
                 tx: allocation.tx,
             });
-            self.add(Happening::Made { slot, lifetime }, sender);
+            self.add(LogEvent::Made { slot, lifetime }, sender);
         }
     }
 
     /// Ends the allocation of a client, which deleted it.
-    fn deleted(&mut self, client: Addr) {
-        let is_of_client = |place: &Option<Open>| match place {
+    fn on_deleted(&mut self, client: Addr) {
+        let is_of_client = |place: &Option<OpenAllocation>| match place {
             Some(open) => open.sender.client == client,
             None => false,
         };
@@ -355,23 +361,23 @@ impl ServerLog {
 
     /// Adds what the response to a request says, with the tables as they are after it.
     #[inline(never)]
-    pub fn answered(&mut self, response: Response, sender: Sender, tables: &Tables, now: u64) {
+    pub fn on_response(&mut self, response: Response, sender: Sender, tables: &Tables, now: u64) {
         if let Some(reason) = refusal_of(response) {
-            return self.add(Happening::Refused(reason), sender);
+            return self.add(LogEvent::Refused(reason), sender);
         }
         match response {
             Response::Granted(Grant::Allocated { slot, lifetime, .. }) => {
                 if let Some(allocation) = tables.allocation_at(slot, now) {
-                    self.made(slot, lifetime, sender, &allocation);
+                    self.on_allocated(slot, lifetime, sender, &allocation);
                 }
             }
-            Response::Granted(Grant::Refreshed { lifetime: 0 }) => self.deleted(sender.client),
+            Response::Granted(Grant::Refreshed { lifetime: 0 }) => self.on_deleted(sender.client),
             _ => {}
         }
     }
 
     /// Ends each allocation that the tables don't have any more.
-    pub fn look(&mut self, tables: &Tables, now: u64, reason: EndReason) {
+    pub fn end_others(&mut self, tables: &Tables, now: u64, reason: EndReason) {
         for slot in 0..self.open.len() {
             let is_live = match (self.open.get(slot), tables.allocation_at(slot, now)) {
                 (Some(Some(open)), Some(allocation)) => open.is(&allocation),
@@ -407,8 +413,8 @@ impl ServerLog {
             self.print(err);
         } else if self.is_over {
             self.begin(err);
-        } else if self.period.is_due(now) {
-            self.look(tables, moment, EndReason::Expired);
+        } else if self.period.fire(now) {
+            self.end_others(tables, moment, EndReason::Expired);
             self.is_over = true;
         } else {
             return false;

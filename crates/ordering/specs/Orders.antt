@@ -102,7 +102,7 @@ IsOrderFault code (errors.Stuck reason slot) = IsStuckAt code reason slot
 IsOrderFault code errors.TooLong = MAX_SLOTS < slot_count code + length code
 IsOrderFault code errors.Memory = Unit {0}
 
--- a run may come to a slot: it is reached, or it follows a reached instruction that goes on to the next one
+-- a run may come to a slot: it is reached, or it follows a reached instruction that continues with the next one
 pub record FallsTo (code : List Insn) (slot : ℕ) : Type 0 where
   pub from : ℕ
   pub reached : IsReachable code from
@@ -139,7 +139,7 @@ free_run w code (suc m) s = run_after (visits code s.slot) (run_onwards s (free_
 abbrev pub moved : (ℕ → ℕ) → State → State
 moved place s = record s { slot = place s.slot }
 
--- a step goes to a state at a jump, and the jump goes on; it changes the slot alone
+-- a step goes to a state at a jump, and the jump continues; it changes the slot alone
 pub record GoesOverJump (w : Environment) (code : List Insn) (s next : State) : Type 0 where
   pub between : State
   pub first : step w code s ≡ Goes between

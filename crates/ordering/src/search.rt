@@ -140,7 +140,7 @@ impl Search {
         }
     }
 
-    /// Goes on to an instruction that was not seen yet.
+    /// Continues at an instruction that was not seen yet.
     ///
     /// # Errors
     /// Where memory runs out.
@@ -184,7 +184,7 @@ impl Search {
         Ok(())
     }
 
-    /// Goes on from the current instruction to one that it leads to and that was not seen yet, the target of a jump
+    /// Continues from the current instruction to one that it leads to and that was not seen yet, the target of a jump
     /// first; or places it.
     ///
     /// # Errors

@@ -55,7 +55,7 @@ pub enum ServerEndpoint {
     At(Addr),
     /// A port of every address.
     Port(u16),
-    /// Each port of an IP address but those from a first to a last one. The port of the address is not looked at.
+    /// Each port of an IP address but those from a first to a last one. The port of the address is ignored.
     Outside { ip: Addr, first: u16, last: u16 },
 }
 

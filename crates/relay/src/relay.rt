@@ -266,9 +266,9 @@ impl Relay {
         self.config.clock_ahead = ahead;
     }
 
-    /// Replaces the users. The allocations of a user go on where one of the new users has the same name and the same
+    /// Replaces the users. The allocations of a user continue where one of the new users has the same name and the same
     /// password, at whatever index, and end otherwise, with their permissions and channels. Those of names with
-    /// time-limited credentials, which no list has, go on. Nothing else changes.
+    /// time-limited credentials, which no list has, continue. Nothing else changes.
     /// See docs/DECISIONS.md, "Users that are replaced".
     ///
     /// # Errors

@@ -68,7 +68,7 @@ impl Relay {
     ghost use Rattle.events.specs.Events.{Event};
     ghost use Rattle.events.specs.Lines.{IsEvent};
 
-    /// Goes on by the event of a line, and writes the line of its answer, with the reason where `explains` says so.
+    /// Continues by the event of a line, and writes the line of its answer, with the reason where `explains` says so.
     /// Returns whether the line is an event's.
     ///
     /// # Errors

@@ -5,10 +5,10 @@ use server::Moments;
 use std::rt::Clock;
 use std::time::Duration;
 
-/// Linux's clock that isn't set, and that goes on while the machine is suspended.
+/// Linux's clock that isn't set, and that continues while the machine is suspended.
 const CLOCK_BOOTTIME: i32 = 7;
 
-/// Returns the time since an arbitrary start, by a clock that isn't set and goes on while the machine is suspended;
+/// Returns the time since an arbitrary start, by a clock that isn't set and continues while the machine is suspended;
 /// where the system has none, by the monotonic one. Where the clock fails it is that start, and nothing is due.
 pub(crate) fn elapsed<R: Clock>(rt: &R) -> Duration {
     let mut time = timespec {

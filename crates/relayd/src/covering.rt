@@ -15,8 +15,8 @@ use report::{Coverage, SourceMap, annotated, report_end};
 use std::alloc::{AllocError, Global};
 use std::io::{self, BufRead, BufWriter, Write};
 
-/// Goes on by the event of a line of this number, and writes its answer.
-fn go_on<'a, W: Write>(
+/// Plays the event of a line of this number, and writes its answer.
+fn play_line<'a, W: Write>(
     relay: &mut Relay,
     line: &[u8],
     number: u64,
@@ -107,7 +107,7 @@ pub(crate) fn trace_event<'a, R: Print + AllocGlobal, B: BufRead + Drop>(
                 print_mapped_run(rt, relay, maps, &line, number)
             };
         }
-        go_on(relay, &line, count, &mut output, false)?;
+        play_line(relay, &line, count, &mut output, false)?;
     }
     Err(CommandError::NoRun(number))
 }
@@ -205,7 +205,7 @@ fn cover_lines<'a, B: BufRead + Drop, W: Write>(
             Err(error) => return Err(replay_fault(error, replay.events)),
         }
         covered.add(alloc, relay, &line)?;
-        go_on(relay, &line, number, output, replay.why)?;
+        play_line(relay, &line, number, output, replay.why)?;
     }
     Ok(covered)
 }

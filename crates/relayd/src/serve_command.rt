@@ -31,7 +31,7 @@ use std::time::Duration;
 /// How many events one wait reports. Further ones are reported by the next.
 const EVENTS: usize = 256;
 
-/// The seconds of the longest wait where something is looked at from time to time.
+/// The seconds of the longest wait where something is read periodically.
 const PERIOD: u64 = 1;
 
 /// The microseconds for which programs are verified between two turns.
@@ -139,14 +139,14 @@ fn ends_of(contents: Contents<'_>) -> (EndReason, RecordEnd) {
 
 /// Looks at the files of the programs of both sides.
 fn look_at_both<R: Files + AllocGlobal, E: Write>(rt: &R, err: &mut E, sides: &mut Sides<'_>) {
-    sides.look_at_client(rt, err);
-    sides.look_at_peer(rt, err);
+    sides.load_client_if_changed(rt, err);
+    sides.load_peer_if_changed(rt, err);
 }
 
 impl<'a> Server<'a> {
     /// Replaces the nonce where that is due at a time.
     fn renew_due_nonce(&mut self, now: Duration) {
-        if self.nonces.is_due(now) {
+        if self.nonces.fire(now) {
             self.renew_nonce();
         }
     }
@@ -236,7 +236,7 @@ impl<'a> Server<'a> {
     fn log_ends<R: Clock>(&mut self, rt: &R, reason: EndReason) {
         let now = moment(rt, &self.moments);
         if let Some(log) = self.reports.log() {
-            log.look(self.relay.tables(), now, reason);
+            log.end_others(self.relay.tables(), now, reason);
         }
     }
 
@@ -279,7 +279,7 @@ impl<'a> Server<'a> {
         index: usize,
     ) {
         if let Some(file) = self.reread.get_mut(index)
-            && file.look(rt, err, &mut self.relay)
+            && file.apply_if_changed(rt, err, &mut self.relay)
         {
             let (reason, end) = ends_of(file.contents());
             self.log_ends(rt, reason);
@@ -297,8 +297,8 @@ impl<'a> Server<'a> {
             self.wire.sockets.want_own(slot, client);
         }
         if let Some(log) = self.reports.log() {
-            let sender = Sender::of(client, self.relay.area());
-            log.answered(response, sender, self.relay.tables(), now);
+            let sender = Sender::of_request(client, self.relay.area());
+            log.on_response(response, sender, self.relay.tables(), now);
         }
     }
 
@@ -350,7 +350,7 @@ impl<'a> Server<'a> {
         poll: Option<&'b Poll>,
         now: Duration,
     ) {
-        if self.chore.is_none() && self.files.is_due(now) {
+        if self.chore.is_none() && self.files.fire(now) {
             self.chore = Some(Chore::FIRST);
         }
         let last = self.duty;

@@ -1,4 +1,4 @@
--- Meaning. A file that is read again from time to time: which of its contents are tried.
+-- Meaning. A file that is read again periodically: which of its contents are tried.
 use Rattle.std.specs.Prelude.{ℕ, Bool, true, false, not, ◌||◌, List, Option, None, Some, Vec, bytes_eq, is_some, ◌&&◌, if◌then◌else◌}
 use Rattle.std.specs.declared.alloc.Global.{Global}
 

@@ -11,7 +11,7 @@ use std::io::Write;
 use std::mem;
 use std::rt::Files;
 
-/// By how much a verification goes on before the clock is read again, by weight: some ten microseconds.
+/// By how much a verification continues before the clock is read again, by weight: some ten microseconds.
 const SLICE: usize = 8_192;
 
 /// How many units of work are done of freeing what a verification has kept, before the clock is read again.
@@ -46,7 +46,7 @@ struct WatchedProgram<'a> {
     /// The bytes of the program that runs, if it isn't the shipped one, and those that the file had when it was last
     /// refused.
     watched: Watched,
-    /// Why the file couldn't be used when it was last looked at.
+    /// Why the file couldn't be used when it was last read.
     unusable: Option<UnusableFile>,
     successor: Successor,
     /// What the last verification has kept, which is freed gradually.
@@ -184,7 +184,7 @@ impl<'a> WatchedProgram<'a> {
 
     /// Begins to load the program of the file, where its bytes are others than those that run, are verified, and were
     /// last refused. A file that can't be read or used changes nothing.
-    fn look<R: Files + AllocGlobal, E: Write>(&mut self, rt: &R, err: &mut E) {
+    fn load_if_changed<R: Files + AllocGlobal, E: Write>(&mut self, rt: &R, err: &mut E) {
         let Some(bytes) = self.read(rt, err) else {
             return;
         };
@@ -201,8 +201,8 @@ impl<'a> WatchedProgram<'a> {
         }
     }
 
-    /// Goes on verifying the next program by a slice, if one is being verified, and freeing what the last verification
-    /// has kept.
+    /// Continues to verify the next program by a slice, if one is being verified, and to free what the last
+    /// verification has kept.
     fn advance<E: Write>(&mut self, err: &mut E) {
         self.free();
         match mem::replace(&mut self.successor, Successor::Nothing) {
@@ -228,7 +228,7 @@ impl<'a> WatchedProgram<'a> {
     }
 
     /// Takes the next program, if it is loaded, as the one that runs, and reports it.
-    fn take<E: Write>(&mut self, err: &mut E) -> Option<Loaded> {
+    fn take_loaded<E: Write>(&mut self, err: &mut E) -> Option<Loaded> {
         match mem::replace(&mut self.successor, Successor::Nothing) {
             Successor::Ready { loaded, bytes } => {
                 if let Some(path) = self.path {
@@ -265,16 +265,20 @@ impl<'a> Sides<'a> {
     }
 
     /// Begins to load the program for clients' datagrams, if its file has changed.
-    pub fn look_at_client<R: Files + AllocGlobal, E: Write>(&mut self, rt: &R, err: &mut E) {
-        self.client.look(rt, err);
+    pub fn load_client_if_changed<R: Files + AllocGlobal, E: Write>(
+        &mut self,
+        rt: &R,
+        err: &mut E,
+    ) {
+        self.client.load_if_changed(rt, err);
     }
 
     /// Begins to load the program for peers' datagrams, if its file has changed.
-    pub fn look_at_peer<R: Files + AllocGlobal, E: Write>(&mut self, rt: &R, err: &mut E) {
-        self.peer.look(rt, err);
+    pub fn load_peer_if_changed<R: Files + AllocGlobal, E: Write>(&mut self, rt: &R, err: &mut E) {
+        self.peer.load_if_changed(rt, err);
     }
 
-    /// Goes on verifying by a slice of each program. Where all are verified, those that are loaded replace the ones
+    /// Continues to verify by a slice of each program. Where all are verified, those that are loaded replace the ones
     /// that run; a program that is refused leaves the one that runs. Returns whether one was replaced.
     /// See docs/DECISIONS.md, "Verification in slices".
     pub fn advance<P: ProgramPair, E: Write>(&mut self, programs: &mut P, err: &mut E) -> bool {
@@ -283,8 +287,8 @@ impl<'a> Sides<'a> {
         if self.client.successor.is_verifying() || self.peer.successor.is_verifying() {
             return false;
         }
-        let client = self.client.take(err);
-        let peer = self.peer.take(err);
+        let client = self.client.take_loaded(err);
+        let peer = self.peer.take_loaded(err);
         let is_replaced = client.is_some() || peer.is_some();
         programs.set_programs(client, peer);
         is_replaced

@@ -40,7 +40,7 @@ enum ContentsError {
     Memory,
 }
 
-/// Why a file wasn't read when it was last looked at.
+/// Why a file wasn't read the last time.
 #[derive(Clone, Copy, Debug, PartialEq, Eq, Error)]
 enum ReadError {
     /// It isn't there, or can't be read.
@@ -68,7 +68,7 @@ pub struct RereadFile<'a> {
     contents: Contents<'a>,
     /// The bytes that are in use, and those that were last refused.
     watched: Watched,
-    /// Why the file wasn't read when it was last looked at.
+    /// Why the file wasn't read the last time.
     read_error: Option<ReadError>,
 }
 
@@ -189,7 +189,7 @@ impl<'a> RereadFile<'a> {
     /// they are put back after a refusal, and a file that isn't read, once until it is. Where memory ran out the file
     /// is tried again. Returns whether something is replaced.
     /// See docs/DECISIONS.md, "Users that are replaced".
-    pub fn look<R: Files + AllocGlobal, E: Write>(
+    pub fn apply_if_changed<R: Files + AllocGlobal, E: Write>(
         &mut self,
         rt: &R,
         err: &mut E,
@@ -202,7 +202,7 @@ impl<'a> RereadFile<'a> {
                     let _ = writeln!(err, "{} as before in {path}", self.contents);
                 }
                 self.read_error = None;
-                self.take(rt.alloc(), err, relay, bytes)
+                self.apply(rt.alloc(), err, relay, bytes)
             }
             Err(error) => {
                 if self.read_error != Some(error) {
@@ -225,7 +225,7 @@ impl<'a> RereadFile<'a> {
 
     /// Sets what the relay has of the file to what its bytes say, if these are others, and reports it. Returns whether
     /// that is done.
-    fn take<E: Write>(
+    fn apply<E: Write>(
         &mut self,
         alloc: Global,
         err: &mut E,

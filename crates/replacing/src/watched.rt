@@ -1,4 +1,4 @@
-//! What is known of a file that is read again from time to time.
+//! What is known of a file that is read again periodically.
 
 ghost use Rattle.std.specs.Prelude.{◌≡◌, None, Some};
 ghost use Rattle.replacing.specs.Watched.{Known, contents_of, is_kept, is_other, is_put_back, looked};

@@ -160,7 +160,7 @@ impl Relays {
         set_programs(alloc, &mut self.stepping, row)
     }
 
-    /// Goes on by an event.
+    /// Continues by an event.
     fn play(&mut self, alloc: Global, event: &str) -> Result<Said> {
         let line = format!(in alloc; "{event}\n")?;
         let answer = replayed(alloc, &mut self.answering, &line, false)?;

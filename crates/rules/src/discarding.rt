@@ -119,7 +119,7 @@ fn discard_of_peer(
 }
 
 /// Returns why the rules send nothing for a datagram at a moment, in seconds; `None` where they send something. It
-/// changes nothing, and what is done with a request isn't looked at, since each is answered.
+/// changes nothing, and what is done with a request is ignored, since each is answered.
 /// See docs/DECISIONS.md, "Why a replay answers so".
 pub fn discard_by_rules(
     tables: &Tables,

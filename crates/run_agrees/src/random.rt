@@ -16,7 +16,7 @@ impl Random {
         Random { state: seed }
     }
 
-    /// Goes on to the next state, and returns its bytes, the high ones first.
+    /// Continues with the next state, and returns its bytes, the high ones first.
     fn bytes(&mut self) -> [u8; 8] {
         self.state = self
             .state

@@ -28,30 +28,31 @@ pub type Registers = [Value; 11];
 /// See docs/DECISIONS.md, "Stores and calls are data".
 #[derive(Clone, Copy, Debug, PartialEq, Eq)]
 pub enum Effect {
-    /// Writes the value to `dst`, and goes on to the next instruction.
+    /// Writes the value to `dst`, and continues with the next instruction.
     Write {
         dst: Reg,
         value: Value,
     },
-    /// Stores the low bytes of a number at a location, and goes on to the next instruction.
+    /// Stores the low bytes of a number at a location, and continues with the next instruction.
     Store {
         at: Location,
         size: Size,
         value: u64,
     },
-    /// Stores a pointer in a group of the stack, by its number, and goes on to the next instruction.
+    /// Stores a pointer in a group of the stack, by its number, and continues with the next instruction.
     StorePointer {
         group: usize,
         pointer: Value,
     },
     /// Asks a helper that looks up. Its answer is written to `r0`, and the record of it to the room `out` in the stack,
-    /// if there is one; `r1` to `r5` hold nothing afterwards. Goes on to the next instruction.
+    /// if there is one; `r1` to `r5` are uninitialised afterwards. Continues with the next instruction.
     Ask {
         question: Question,
         out: Option<Room>,
     },
     /// Sets the window, by its front and its length, and writes 0 to `r0`. `None` where it would not lie in memory: the
-    /// plan stays as it is, and `r0` is 1. `r1` to `r5` hold nothing afterwards. Goes on to the next instruction.
+    /// plan stays as it is, and `r0` is 1. `r1` to `r5` are uninitialised afterwards. Continues with the next
+    /// instruction.
     SetWindow(Option<(usize, usize)>),
     /// Sets the destination, as `SetWindow` does the window.
     SetDestination(Option<[u8; WIDE_RECORD_BYTES]>),
@@ -59,7 +60,7 @@ pub enum Effect {
     Jump {
         offset: i32,
     },
-    /// Goes on to the next instruction: a conditional jump that is not taken.
+    /// Continues with the next instruction: a conditional jump that is not taken.
     Pass,
     /// Ends the run with a verdict.
     Exit {

@@ -214,7 +214,7 @@ pub(crate) fn stack_index(pointer: Value, n: usize) -> Option<usize>
     }
 }
 
-/// Returns the bytes of `N` stack cells, or `None` where one holds nothing.
+/// Returns the bytes of `N` stack cells, or `None` where one is uninitialised.
 pub(crate) fn bytes_of_cells<const N: usize>(cells: &[Option<u8>]) -> Option<[u8; N]>
     requires { length cells.now ≡ N }
     ensures { result ≡ cells_bytes cells.now }

@@ -85,7 +85,7 @@ fn number_of_bytes(bytes: &[u8], index: usize, n: usize) -> u64
     little_endian(part_of(bytes, index, n))
 }
 
-/// Reads the little-endian number in at most eight stack cells, or `None` where one holds nothing.
+/// Reads the little-endian number in at most eight stack cells, or `None` where one is uninitialised.
 fn number_of_cells(cells: &[Option<u8>]) -> Option<u64>
     requires { length cells.now ≤ 8 }
     ensures value { result ≡ cells_number cells.now }

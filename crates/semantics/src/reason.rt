@@ -17,7 +17,7 @@ pub enum Reason {
     JumpIntoWide,
     /// A step past the last instruction.
     FallsOffEnd,
-    /// A read of a register that holds nothing.
+    /// A read of a register that is uninitialised.
     UninitRegister,
     /// A read of a stack byte that was never written.
     UninitStack,

@@ -10,7 +10,7 @@ use crate::storing::put_cells;
 use crate::value::Value;
 
 /// The stack: 512 cells, and for each aligned group of eight of them the pointer that it holds in their place. The
-/// first cell is at place -512. The cells of a group that holds a pointer hold nothing.
+/// first cell is at place -512. The cells of a group that holds a pointer are uninitialised.
 /// See docs/DECISIONS.md, "Pointers beside the cells".
 #[derive(Clone, Copy, Debug, PartialEq, Eq)]
 pub struct StackMemory {
@@ -139,7 +139,7 @@ fn clear_cells(cells: &mut [Option<u8>], index: usize)
     }
 }
 
-/// Stores a pointer in a group, of which the cells then hold nothing.
+/// Stores a pointer in a group, of which the cells are then uninitialised.
 pub fn put_pointer(stack: &mut StackMemory, group: usize, pointer: Value)
     requires { group < GROUPS }
     ensures { stack.new ≡ with_pointer stack.old group pointer }

@@ -14,8 +14,8 @@ use Rattle.server.specs.declared.link.Place.{Place}
 use Rattle.server.specs.Ahead.{Waiting, Datagram, Fault, Receive, call_at, waiting_of, waiting_after, is_datagram, IsReceive, AreDatagrams, HasFilled, HasTaken, IsHandedOn}
 use Rattle.server.specs.Filling.{stored_datagram, ending_of, waiting_in, AreWithin, HasReceived, HasReceivedOne, HasFilledSoFar}
 use Rattle.server.specs.declared.ahead.Stored.{Stored}
-use Rattle.server.specs.declared.ahead.Then.{Then}
-use Rattle.server.specs.declared.ahead.Then.TheVariants as then
+use Rattle.server.specs.declared.ahead.BatchEnd.{BatchEnd}
+use Rattle.server.specs.declared.ahead.BatchEnd.TheVariants as then
 
 -- ---- where datagrams lie
 
@@ -42,17 +42,17 @@ within_drop end (suc i) (s ∷ ss) all = within_drop end i ss all.1
 
 -- ---- the first one that waits
 
-pub first_waits : (bytes : List ℕ) (ss : List Stored) (i : ℕ) (t : Then) (s : Stored) → i < length ss → s ≡ get_or ss i s
+pub first_waits : (bytes : List ℕ) (ss : List Stored) (i : ℕ) (t : BatchEnd) (s : Stored) → i < length ss → s ≡ get_or ss i s
     → waiting_in bytes ss i t ≡ stored_datagram bytes s ∷ waiting_in bytes ss (i + 1) t
 first_waits bytes ss i t s h is =
     ap (λ (l : List Stored). map (stored_datagram bytes) l ++ ending_of t) (drop-cons ss i s h)
     ∙ ap (λ (x : Stored). stored_datagram bytes x ∷ (map (stored_datagram bytes) (drop (suc i) ss) ++ ending_of t)) (sym is)
     ∙ ap (λ (k : ℕ). stored_datagram bytes s ∷ (map (stored_datagram bytes) (drop k ss) ++ ending_of t)) (sym (add-one i))
 
-pub none_stored : (bytes : List ℕ) (ss : List Stored) (i : ℕ) (t : Then) → length ss ≤ i → waiting_in bytes ss i t ≡ ending_of t
+pub none_stored : (bytes : List ℕ) (ss : List Stored) (i : ℕ) (t : BatchEnd) → length ss ≤ i → waiting_in bytes ss i t ≡ ending_of t
 none_stored bytes ss i t h = ap (λ (l : List Stored). map (stored_datagram bytes) l ++ ending_of t) (drop_of_length-le ss h)
 
-pub some_stored : (bytes : List ℕ) (ss : List Stored) (i : ℕ) (t : Then) → i < length ss → waiting_in bytes ss i t ≡ [] → ⊥
+pub some_stored : (bytes : List ℕ) (ss : List Stored) (i : ℕ) (t : BatchEnd) → i < length ss → waiting_in bytes ss i t ≡ [] → ⊥
 some_stored bytes [] i t h is = absurd (omega (arith, h))
 some_stored bytes (s ∷ ss) zero t h is = cc is
 some_stored bytes (s ∷ ss) (suc i) t h is = some_stored bytes ss i t (omega (arith, h)) is
@@ -87,7 +87,7 @@ one_more end xs ys ss i s same all h =
     ∙ map-append (stored_datagram ys) (drop i ss) (s ∷ [])
     ∙ ap (λ (l : List Waiting). l ++ stored_datagram ys s ∷ []) (same_waits end xs ys ss i same all)
 
-pub one_ends : (end : ℕ) (xs ys : List ℕ) (ss : List Stored) (i : ℕ) (t : Then) (w : Waiting) → take end ys ≡ take end xs → AreWithin end ss → ending_of t ≡ w ∷ []
+pub one_ends : (end : ℕ) (xs ys : List ℕ) (ss : List Stored) (i : ℕ) (t : BatchEnd) (w : Waiting) → take end ys ≡ take end xs → AreWithin end ss → ending_of t ≡ w ∷ []
     → waiting_in ys ss i t ≡ waiting_in xs ss i then.Receive ++ w ∷ []
 one_ends end xs ys ss i t w same all is =
     ap (λ (l : List Waiting). map (stored_datagram ys) (drop i ss) ++ l) is

@@ -1,4 +1,4 @@
--- Meaning. What is received ahead at a link, and how it is handed on.
+-- Meaning. What is received ahead at a link, and how it is passed on.
 use Rattle.std.specs.Prelude.{◌≡◌, ◌≢◌, ℕ, ◌≤◌, ◌<◌, nat_le, ◌⊎◌, Bool, true, false, List, [], ◌∷◌, ◌++◌, length, take, drop, map, Option, None, Some, Result, Ok, Err, IsErr, option_to_list, if◌then◌else◌}
 use Rattle.addresses.specs.declared.address.Addr.{Addr}
 use Rattle.semantics.specs.declared.limits.TheConstants.{MAX_DATAGRAM}
@@ -71,7 +71,7 @@ IsHandedOn (Datagram bytes from) into now result =
 IsHandedOn Nothing into now result = (now ≡ into) × (result ≡ Ok None)
 IsHandedOn Fault into now result = (now ≡ into) × IsErr result
 
--- The first of what waits is handed on, and no call of the link is made. Where nothing waits, one receive of the link is made, and
+-- The first of what waits is passed on, and no call of the link is made. Where nothing waits, one receive of the link is made, and
 -- its answer is the result.
 abbrev pub HasTaken : Place → Option (List Call) → Option (List Call) → List Waiting → List Waiting → List ℕ → List ℕ → Result (Option (ℕ × Addr)) LinkFault → Type 0
 HasTaken endpoint before after [] new into now result = (new ≡ []) × HasReported before after (Received endpoint now result ∷ [])

@@ -4,19 +4,19 @@ use Rattle.server.specs.Calls.{Call, HasReported}
 use Rattle.server.specs.declared.link.Place.{Place}
 use Rattle.server.specs.Ahead.{Waiting, Datagram, Nothing, Fault, Receive, call_at, waiting_of, IsReceive, AreDatagrams}
 use Rattle.server.specs.declared.ahead.Stored.{Stored}
-use Rattle.server.specs.declared.ahead.Then.{Then}
-use Rattle.server.specs.declared.ahead.Then.TheVariants as then
+use Rattle.server.specs.declared.ahead.BatchEnd.{BatchEnd}
+use Rattle.server.specs.declared.ahead.BatchEnd.TheVariants as then
 use Rattle.server.specs.declared.ahead.TheConstants.{TURNS}
 
 abbrev pub stored_datagram : List ℕ → Stored → Waiting
 stored_datagram bytes s = Datagram (take s.n (drop s.start bytes)) s.from
 
-abbrev pub ending_of : Then → List Waiting
+abbrev pub ending_of : BatchEnd → List Waiting
 ending_of then.Receive = []
 ending_of then.Nothing = Nothing ∷ []
 ending_of then.Fault = Fault ∷ []
 
-abbrev pub waiting_in : List ℕ → List Stored → ℕ → Then → List Waiting
+abbrev pub waiting_in : List ℕ → List Stored → ℕ → BatchEnd → List Waiting
 waiting_in bytes datagrams count then = map (stored_datagram bytes) (drop count datagrams) ++ ending_of then
 
 -- each datagram lies before an end

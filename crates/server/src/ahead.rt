@@ -24,7 +24,7 @@ pub type Receipt = Option<(usize, Addr)>;
 
 /// What comes after the datagrams that were received ahead.
 #[derive(Clone, Copy)]
-pub(crate) enum Then {
+pub(crate) enum BatchEnd {
     /// Another receive is to be made.
     Receive,
     /// Nothing more has come.
@@ -41,14 +41,14 @@ pub(crate) struct Stored {
     pub(crate) from: Addr,
 }
 
-/// What was received ahead at an endpoint, in order, until it is handed on. The model is the list of what waits.
+/// What was received ahead at an endpoint, in order, until it is passed on. The model is the list of what waits.
 #[derive(Drop)]
 pub struct Ahead {
     /// The bytes of all datagrams, one after the other.
     bytes: Vec<u8>,
     datagrams: Vec<Stored>,
-    then: Then,
-    /// How many datagrams have been handed on.
+    then: BatchEnd,
+    /// How many datagrams have been passed on.
     count: usize,
     /// Where the bytes of the datagrams end.
     end: usize,
@@ -91,7 +91,7 @@ fn receive_at<L: Link>(
 /// # Errors
 /// Where it is longer than `into`, which stays as it is.
 #[inline(always)]
-fn hand_on(bytes: &[u8], from: Addr, into: &mut [u8]) -> Result<Receipt, LinkFault>
+fn copy_to(bytes: &[u8], from: Addr, into: &mut [u8]) -> Result<Receipt, LinkFault>
     ensures { IsHandedOn (Datagram bytes.now from) into.old into.new result }
 {
     let n = bytes.len();
@@ -115,7 +115,7 @@ impl Ahead {
         Ok(Ahead {
             bytes,
             datagrams,
-            then: Then::Receive,
+            then: BatchEnd::Receive,
             count: 0,
             end: 0,
         })
@@ -130,9 +130,9 @@ impl Ahead {
             return false;
         }
         match self.then {
-            Then::Receive => true,
-            Then::Nothing => false,
-            Then::Fault => false,
+            BatchEnd::Receive => true,
+            BatchEnd::Nothing => false,
+            BatchEnd::Fault => false,
         }
     }
 
@@ -141,7 +141,7 @@ impl Ahead {
         ensures { self.new ≡ [] }
     {
         self.datagrams.clear();
-        self.then = Then::Receive;
+        self.then = BatchEnd::Receive;
         self.count = 0;
         self.end = 0;
     }
@@ -152,7 +152,7 @@ impl Ahead {
         ensures one { HasReceivedOne endpoint (L.calls link.old) (L.calls link.new) self.old self.new result }
         ensures more { length self.new ≤ length self.old + 1 }
     {
-        let Then::Receive = self.then else {
+        let BatchEnd::Receive = self.then else {
             return false;
         };
         let start = self.end;
@@ -166,11 +166,11 @@ impl Ahead {
                 true
             }
             Ok(None) => {
-                self.then = Then::Nothing;
+                self.then = BatchEnd::Nothing;
                 false
             }
             _ => {
-                self.then = Then::Fault;
+                self.then = BatchEnd::Fault;
                 false
             }
         }
@@ -211,12 +211,12 @@ impl Ahead {
             let Stored { start, n, from } = self.datagrams[self.count];
             self.count += 1;
             let end = start + n;
-            return hand_on(&self.bytes[start..end], from, into);
+            return copy_to(&self.bytes[start..end], from, into);
         }
-        match mem::replace(&mut self.then, Then::Receive) {
-            Then::Receive => link.receive(endpoint, into),
-            Then::Nothing => Ok(None),
-            Then::Fault => Err(LinkFault),
+        match mem::replace(&mut self.then, BatchEnd::Receive) {
+            BatchEnd::Receive => link.receive(endpoint, into),
+            BatchEnd::Nothing => Ok(None),
+            BatchEnd::Fault => Err(LinkFault),
         }
     }
 }

@@ -9,9 +9,9 @@ use rules::at_port;
 /// See docs/DECISIONS.md, "Data between two clients of one server".
 #[derive(Clone, Copy, Debug, PartialEq, Eq)]
 pub struct Hairpin {
-    /// The relayed IP address. Its port isn't looked at.
+    /// The relayed IP address. Its port is ignored.
     pub relayed: Addr,
-    /// The IP address of the sockets. Its port isn't looked at.
+    /// The IP address of the sockets. Its port is ignored.
     pub bound: Addr,
     /// The port of slot 0.
     pub first: u16,

@@ -1,4 +1,4 @@
-//! What is done from time to time.
+//! What is done periodically.
 
 ghost use Rattle.std.specs.Prelude.{◌≡◌, ◌≤◌, ◌↔◌, IsTrue};
 ghost use Rattle.server.specs.Timers.{IsTimerAfter, first_moment};
@@ -6,7 +6,7 @@ ghost use Rattle.std.specs.Duration.{as_nanos};
 
 use std::time::Duration;
 
-/// What is done from time to time. Its moments are times since an arbitrary start.
+/// What is done periodically. Its moments are times since an arbitrary start.
 #[derive(Clone, Copy)]
 pub struct Timer {
     /// The time between two moments.
@@ -24,8 +24,9 @@ impl Timer {
         Timer { every, next }
     }
 
-    /// Returns whether the timer is due: `now` is at or after its moment. It is then set for one period after `now`.
-    pub fn is_due(&mut self, now: Duration) -> bool
+    /// Fires where the timer is due, `now` being at or after its moment, and is then set for one period after `now`.
+    /// Returns whether it fires.
+    pub fn fire(&mut self, now: Duration) -> bool
         ensures due { IsTrue result ↔ (as_nanos self.old.next ≤ as_nanos now) }
         ensures after { IsTimerAfter self.old now result self.new }
     {

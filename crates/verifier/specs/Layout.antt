@@ -57,7 +57,7 @@ pub record IsFirstFaultyJump (code : List Insn) (reason : Reason) (slot : ℕ) :
   pub faulty : slot_checked code slot ≡ Err reason
   pub first : (k : ℕ) → k < slot → slot_checked code k ≡ Ok tt
 
--- no jump is faulty, and the program goes on past its last instruction
+-- no jump is faulty, and the program continues past its last instruction
 pub record FallsOff (code : List Insn) (reason : Reason) (slot : ℕ) : Type 0 where
   pub reason_is : reason ≡ reasons.FallsOffEnd
   pub slot_is : slot ≡ last_slot code

@@ -1,4 +1,4 @@
--- Meaning. The search among kept states for one that covers another state, which goes on by so much work at a time.
+-- Meaning. The search among kept states for one that covers another state, which continues by so much work at a time.
 use Rattle.std.specs.Prelude.{◌≡◌, ℕ, ◌+◌, ◌*◌, ◌≤◌, ◌<◌, true, false, List, length, take}
 use Rattle.std.specs.List.{list_any}
 use Rattle.interval.specs.Domains.{Operations}

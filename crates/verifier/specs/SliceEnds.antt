@@ -24,7 +24,7 @@ pub record IsNewWalk {D : Type 0} (code : List Insn) (budget : ℕ) (w : Walking
 abbrev pub MayRefuseStart : List Insn → Refusal → Type 0
 MayRefuseStart code e = IsLayoutRefusal code e ⊎ ((e ≡ refusal.Memory 0) × IsLaidOut code)
 
--- the walk goes on: so much work more is done, by weight, or was done before, and its steps are counted
+-- the walk continues: so much work more is done, by weight, or was done before, and its steps are counted
 pub record GoesOnBy {D : Type 0} (w next : Walking D) (slice old new : ℕ) : Type 0 where
   pub code_is : next.code ≡ w.code
   pub budget_is : next.budget ≡ w.budget

@@ -1,4 +1,4 @@
--- Meaning. A walk that goes on by slices of work.
+-- Meaning. A walk that continues by slices of work.
 use Rattle.std.specs.Prelude.{◌≡◌, ℕ, ◌+◌, ◌-◌, ◌*◌, ◌≤◌, List, length, Option, Some, None, Result, Ok, Err}
 use Rattle.insn.specs.Encoding.{slot_count}
 use Rattle.insn.specs.declared.decoding.TheConstants.{MAX_SLOTS}
@@ -18,7 +18,7 @@ use Rattle.verifier.specs.declared.walk.Path.TheVariants.{Continues, Ended}
 use Rattle.verifier.specs.declared.walk.Pending.{Pending}
 use Rattle.verifier.specs.declared.weights.TheConstants.{UNIT, KEPT_STATE, HEAVIEST}
 
--- A walk that goes on: its code, its budget, the steps made, the states that wait, the next one last, and those that are kept. Of
+-- A walk that continues: its code, its budget, the steps made, the states that wait, the next one last, and those that are kept. Of
 -- those at the slot of the next state the first ones are known not to cover it; and so much was done beyond the slices so far.
 pub record Walking (D : Type 0) : Type 0 where
   pub code : List Insn
@@ -54,7 +54,7 @@ work_left w = weight_left w.budget w.made w.waits w.passed + w.ahead
 abbrev pub waits_of : {D : Type 0} → Frontier D → List (Pending D)
 waits_of at = waiting_states (state_to_follow at.path at.here.value) at.pending.items
 
--- how many of the states that are kept at the slot of the state at hand are known not to cover it
+-- how many of the states that are kept at the slot of the current state are known not to cover it
 abbrev pub passed_of : Path → ℕ → ℕ
 passed_of Continues passed = passed
 passed_of Ended passed = 0
@@ -103,7 +103,7 @@ pub record HasDoneSlice {D : Type 0} (ops : Operations D) (Member : D → ℕ �
   pub few : new ≤ old + slice
   pub light : to.ahead ≤ HEAVIEST
 
--- a fact that holds where the walk goes on
+-- a fact that holds where the walk continues
 abbrev pub IfContinues : Type 0 → Path → Type 0
 IfContinues P Continues = P
 IfContinues P Ended = Unit {0}
@@ -122,7 +122,7 @@ StopsIn ops Member code budget before units old new (Ok Continues) = Unit {0}
 StopsIn ops Member code budget before units old new (Ok Ended) = Stops {T = Unit {0}} ops Member code budget before units old new (Ok tt)
 StopsIn ops Member code budget before units old new (Err e) = Stops {T = Unit {0}} ops Member code budget before units old new (Err e)
 
--- the same of a unit of work, whose weight is known where the walk goes on
+-- the same of a unit of work, whose weight is known where the walk continues
 abbrev pub StopsUnit : {D : Type 0} → Operations D → (D → ℕ → Type 0) → List Insn → ℕ → ℕ → ℕ → ℕ → Result (Option ℕ) Refusal → Type 0
 StopsUnit ops Member code budget before old new (Ok (Some weight)) = Unit {0}
 StopsUnit ops Member code budget before old new (Ok None) = Stops {T = Unit {0}} ops Member code budget before 1 old new (Ok tt)

@@ -25,7 +25,7 @@ pub record IsStepMade {D : Type 0} (ops : Operations D) (code : List Insn) (here
 abbrev pub IsSkip : {D : Type 0} → List (Pending D) → List (Pending D) → ℕ → ℕ → Type 0
 IsSkip rest waits before made = (waits ≡ rest) × (made ≡ before)
 
--- a unit that goes on: the last state that waits is skipped, or its step is made
+-- a unit that continues: the last state that waits is skipped, or its step is made
 pub record DoesUnit {D : Type 0} (ops : Operations D) (code : List Insn) (old new : List (Pending D)) (before made : ℕ) : Type 0 where
   pub rest : List (Pending D)
   pub here : Pending D

@@ -1,4 +1,4 @@
--- Interface. One step of the walk over all paths: how it goes on, and its refusals.
+-- Interface. One step of the walk over all paths: how it continues, and its refusals.
 use Rattle.std.specs.Prelude.{◌≡◌, ℕ, true, false, List, [], ◌∷◌, ◌++◌, Option, Some, None, Ok, Err, IfSome, IfNone, All}
 use Rattle.insn.specs.Encoding.{Fits}
 use Rattle.insn.specs.declared.instruction.Insn.{Insn}
@@ -57,7 +57,7 @@ Leaves {D = D} code here i state old new = (left : List (Pending D)) × (new ≡
 abbrev pub GoesOn : {D : Type 0} → List Insn → ℕ → Insn → Next D → Option (Pending D) → List (Pending D) → Type 0
 GoesOn code here i answer on left = IsNext code here i NotTaken (state_after answer NotTaken) on × IsLeft code here i Taken (state_after answer Taken) left
 
--- one step of a path: its instruction is accepted, and the walk goes on so
+-- one step of a path: its instruction is accepted, and the walk continues so
 pub record Advances {D : Type 0} (ops : Operations D) (code : List Insn) (here : Pending D) (old : List (Pending D)) (next : Option (Pending D)) (new : List (Pending D)) : Type 0 where
   pub insn : Insn
   pub begins : fetch code here.slot ≡ Begins insn
@@ -75,7 +75,7 @@ pub record IsRefusedAt {D : Type 0} (ops : Operations D) (code : List Insn) (her
   pub fits : Fits insn
   pub step_is : abstract_step ops here.state insn ≡ Err reason
 
--- an allocation failure, with the instruction at a slot in hand
+-- an allocation failure, at the instruction at a slot
 abbrev pub IsOutOfMemory : ℕ → Refusal → Type 0
 IsOutOfMemory here (refusal.Stuck reason slot) = ⊥
 IsOutOfMemory here (refusal.Budget slot) = ⊥
@@ -112,7 +112,7 @@ pub record Settles {D : Type 0} (ops : Operations D) (Member : D → ℕ → Typ
   pub uncovered : IfSome picked (λ p. is_covered ops kept p ≡ false)
   pub ended : IfNone picked (new ≡ [])
 
--- one step of the walk: the state at hand is kept, its step is made, and the walk goes on so
+-- one step of the walk: the current state is kept, its step is made, and the walk continues so
 pub record IsWalkStep {D : Type 0} (ops : Operations D) (Member : D → ℕ → Type 0) (code : List Insn) (here : Pending D) (old : List (Pending D)) (kept : KeptStates D) (picked : Option (Pending D)) (new : List (Pending D)) (more : KeptStates D) : Type 0 where
   pub next : Option (Pending D)
   pub pending : List (Pending D)

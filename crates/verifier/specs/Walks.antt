@@ -26,7 +26,7 @@ Pauses {D = D} ops Member code (suc n) waits kept =
     × Walks ops Member code n (old ++ here ∷ []) before × Keeps here before kept × Advances ops code here old next new
     × Skips ops Member (kept_at kept) (waiting_states next new) waits
 
--- after a number of steps the state at hand is at a slot
+-- after a number of steps the current state is at a slot
 pub record ComesTo {D : Type 0} (ops : Operations D) (Member : D → ℕ → Type 0) (code : List Insn) (made slot : ℕ) : Type 0 where
   pub here : Pending D
   pub pending : List (Pending D)

@@ -436,7 +436,7 @@ impl<D: Domain> Remains<D> {
         }
     }
 
-    /// Frees a state, or goes on to those of another slot, and returns whether there was anything to do.
+    /// Frees a state, or continues at those of another slot, and returns whether there was anything to do.
     fn free_one(&mut self) -> bool
         ensures freed { result ≡ true → self.new + 1 ≡ self.old }
         ensures none { result ≡ false → self.old ≡ 0 }

@@ -15,7 +15,7 @@ pub enum Refusal {
     Stuck { reason: Reason, slot: usize },
     /// V17: the step at this slot would pass the budget of abstract steps.
     Budget { slot: usize },
-    /// V19: memory ran out, with the instruction at this slot in hand.
+    /// V19: memory ran out, at the instruction at this slot.
     Memory { slot: usize },
 }
 

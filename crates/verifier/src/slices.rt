@@ -1,4 +1,4 @@
-//! The walk in slices: it goes on by so much work at a time, and ends in the same verdict. A state that a kept one of
+//! The walk in slices: it continues by so much work at a time, and ends in the same verdict. A state that a kept one of
 //! its slot covers is skipped.
 
 ghost use Rattle.std.specs.Prelude.{◌≡◌, ◌≤◌, ◌+◌, [], true, Err, IfOk, IfErr, IfSome, OnOk};
@@ -17,7 +17,7 @@ ghost use Rattle.verifier.specs.declared.weights.TheConstants.{HEAVIEST};
 use crate::kept::{KeptStates, Remains, SearchProgress};
 use crate::layout::check_layout;
 use crate::refusal::Refusal;
-use crate::walk::{Path, Pending, Verified, make_step};
+use crate::walk::{Path, Pending, Verified, step};
 use crate::weights::UNIT;
 use absstate::AbsState;
 use basics::steps::Steps;
@@ -32,12 +32,12 @@ use std::sync::ledger::Ledger;
 /// The states of a walk between two units of work: those that wait, and those that are kept.
 #[derive(Drop)]
 pub struct Frontier<D: Domain> {
-    /// Whether the state at hand waits: where the current path has ended, the last pending one is next.
+    /// Whether the current state waits: where the current path has ended, the last pending one is next.
     path: Path,
     here: Box<Pending<D>>,
     pending: Vec<Pending<D>>,
     kept: KeptStates<D>,
-    /// How many of the states that are kept at the slot of the state at hand are known not to cover it: the first ones.
+    /// How many of the states that are kept at the slot of the current state are known not to cover it: the first ones.
     passed: usize,
     /// What was done beyond the slices so far, by weight.
     ahead: usize,
@@ -45,9 +45,9 @@ pub struct Frontier<D: Domain> {
     made: usize,
 }
 
-/// Takes the state to follow next in hand: that of the current path or, where it has ended, the last pending one.
+/// Takes the state to follow next: that of the current path or, where it has ended, the last pending one.
 /// Returns `Ended` where no state waits.
-fn resume<D: Domain>(at: &mut Frontier<D>) -> Path
+fn take_next<D: Domain>(at: &mut Frontier<D>) -> Path
     ensures waits { waits_of at.new ≡ waits_of at.old }
     ensures kept { at.new.kept ≡ at.old.kept }
     ensures made { at.new.made ≡ at.old.made }
@@ -71,7 +71,7 @@ fn resume<D: Domain>(at: &mut Frontier<D>) -> Path
     }
 }
 
-/// Skips the state at hand, where a kept one of its slot covers it, or else makes its step.
+/// Skips the current state, where a kept one of its slot covers it, or else makes its step.
 ///
 /// # Errors
 /// V17 where the step would pass the budget; else the refusal of the step.
@@ -108,7 +108,7 @@ fn settle<D: Domain, L: Ledger>(
     }
     steps.tick();
     at.made += 1;
-    at.path = make_step(program, &mut at.kept, &mut at.here, &mut at.pending)?;
+    at.path = step(program, &mut at.kept, &mut at.here, &mut at.pending)?;
     Ok(())
 }
 
@@ -118,7 +118,7 @@ fn settle<D: Domain, L: Ledger>(
 ///
 /// # Errors
 /// V17 where the step would pass the budget; else the refusal of the step.
-fn work<D: Domain, L: Ledger>(
+fn run_unit<D: Domain, L: Ledger>(
     program: &Program,
     at: &mut Frontier<D>,
     budget: usize,
@@ -133,7 +133,7 @@ fn work<D: Domain, L: Ledger>(
         (HasDoneUnit D.ops D.Member program.now budget at.old at.new steps.old steps.new)) }
     ensures ended { StopsUnit D.ops D.Member program.now budget at.old.made steps.old steps.new result }
 {
-    if let Path::Ended = resume(at) {
+    if let Path::Ended = take_next(at) {
         return Ok(None);
     }
     let (found, weight) = at.kept.search(&at.here, at.passed);
@@ -150,7 +150,7 @@ fn work<D: Domain, L: Ledger>(
 ///
 /// # Errors
 /// The first refusal that is met.
-fn work_on<D: Domain, L: Ledger>(
+fn run_slice<D: Domain, L: Ledger>(
     program: &Program,
     at: &mut Frontier<D>,
     budget: usize,
@@ -170,7 +170,7 @@ fn work_on<D: Domain, L: Ledger>(
     let mut left = slice.saturating_sub(at.ahead);
     at.ahead = at.ahead.saturating_sub(slice);
     while left > 0 {
-        let Some(weight) = work(program, at, budget, steps)? else {
+        let Some(weight) = run_unit(program, at, budget, steps)? else {
             return Ok(Path::Ended);
         };
         at.ahead = weight.saturating_sub(left);
@@ -179,7 +179,7 @@ fn work_on<D: Domain, L: Ledger>(
     Ok(Path::Continues)
 }
 
-/// Searches all states that are kept at the slot of the state at hand, and returns whether one covers it.
+/// Searches all states that are kept at the slot of the current state, and returns whether one covers it.
 fn is_covered<D: Domain>(at: &mut Frontier<D>) -> bool
     requires passed { HasPassed D.ops (kept_at at.old.kept at.old.here.value.slot) at.old.passed
         at.old.here.value.state }
@@ -207,7 +207,7 @@ fn is_covered<D: Domain>(at: &mut Frontier<D>) -> bool
 ///
 /// # Errors
 /// V17 where the step would pass the budget; else the refusal of the step.
-fn step_on<D: Domain, L: Ledger>(
+fn step_next<D: Domain, L: Ledger>(
     program: &Program,
     at: &mut Frontier<D>,
     budget: usize,
@@ -224,7 +224,7 @@ fn step_on<D: Domain, L: Ledger>(
     ensures ended { StopsIn D.ops D.Member program.now budget at.old.made 1 steps.old steps.new result }
     ensures unit { IsUnitBetween D.ops program.now at.old at.new result }
 {
-    if let Path::Ended = resume(at) {
+    if let Path::Ended = take_next(at) {
         return Ok(Path::Ended);
     }
     let covered = is_covered(at);
@@ -232,7 +232,7 @@ fn step_on<D: Domain, L: Ledger>(
     Ok(Path::Continues)
 }
 
-/// A walk over all paths of a program that has not ended. It goes on in slices, by [`advance`](Walk::advance).
+/// A walk over all paths of a program that has not ended. It continues in slices, by [`advance`](Walk::advance).
 /// See docs/DECISIONS.md, "Verification in slices".
 #[derive(Drop)]
 pub struct Walk<D: Domain> {
@@ -255,7 +255,7 @@ impl<D: Domain> Model for Walk<D> {
 /// What a walk has come to after a slice.
 #[derive(Drop)]
 pub enum Progress<D: Domain> {
-    /// It goes on.
+    /// It continues.
     Going(Walk<D>),
     /// It has ended: the program is accepted, or refused. The states that it has kept are still there.
     Ended(Result<Verified, Refusal>, Remains<D>),
@@ -366,7 +366,7 @@ impl<D: Domain> Walk<D> {
             budget,
             mut at,
         } = self;
-        match step_on(translation.program(), &mut at, budget, steps) {
+        match step_next(translation.program(), &mut at, budget, steps) {
             Err(refusal) => Progress::Ended(Err(refusal), Remains::new(at.kept)),
             Ok(Path::Ended) => Progress::Ended(Ok(Verified { translation }), Remains::new(at.kept)),
             Ok(Path::Continues) => Progress::Going(Walk {
@@ -377,7 +377,7 @@ impl<D: Domain> Walk<D> {
         }
     }
 
-    /// Goes on by work of the weight `slice`, or less where the walk ends. Of what the last unit of work does beyond
+    /// Continues by work of the weight `slice`, or less where the walk ends. Of what the last unit of work does beyond
     /// it, so much less is done by the next slices. No unit weighs more than 10,240, whatever the program is.
     pub fn advance<L: Ledger>(self, slice: usize, steps: &mut Steps<L>) -> Progress<D>
         ensures { IsSlice D.ops D.Member self slice steps.old steps.new result }
@@ -387,7 +387,7 @@ impl<D: Domain> Walk<D> {
             budget,
             mut at,
         } = self;
-        match work_on(translation.program(), &mut at, budget, slice, steps) {
+        match run_slice(translation.program(), &mut at, budget, slice, steps) {
             Err(e) => Progress::Ended(Err(e), Remains::new(at.kept)),
             Ok(Path::Ended) => Progress::Ended(Ok(Verified { translation }), Remains::new(at.kept)),
             Ok(Path::Continues) => Progress::Going(Walk {

@@ -47,7 +47,7 @@ impl<D: Copy> Clone for Pending<D> {
 
 impl<D: Copy> Copy for Pending<D> {}
 
-/// Whether the current path continues from the state at hand, or has ended.
+/// Whether the current path continues from the current state, or has ended.
 #[derive(Clone, Copy)]
 pub enum Path {
     Continues,
@@ -115,9 +115,9 @@ fn slot_after(program: &Program, slot: usize, insn: Insn, branch: Branch) -> usi
     }
 }
 
-/// Goes on by the branch not taken: changes the state to that of the branch, at the slot that it leads to. The path
+/// Follows the branch not taken: changes the state to that of the branch, at the slot that it leads to. The path
 /// ends where the branch isn't feasible.
-fn go_on<D: Copy>(
+fn follow<D: Copy>(
     program: &Program,
     insn: Insn,
     change: Option<Change<D>>,
@@ -137,8 +137,8 @@ fn go_on<D: Copy>(
     Path::Continues
 }
 
-/// Leaves the state of a taken branch pending, if the branch is feasible.
-fn leave<D: Copy>(
+/// Pushes the state of a taken branch, if the branch is feasible.
+fn push_branch<D: Copy>(
     program: &Program,
     insn: Insn,
     change: Option<Change<D>>,
@@ -163,8 +163,8 @@ fn leave<D: Copy>(
     Ok(())
 }
 
-/// Makes one step of the current path, and goes on to its next state: that of the branch not taken. The taken branch of
-/// a conditional jump is left pending.
+/// Makes one step of the current path, and continues at its next state: that of the branch not taken. The taken branch
+/// of a conditional jump is left pending.
 fn advance<D: Domain>(
     program: &Program,
     here: &mut Pending<D>,
@@ -187,19 +187,19 @@ fn advance<D: Domain>(
         .map_err(|reason| Refusal::Stuck { reason, slot })?;
     match transition {
         Transition::Exit => Ok(Path::Ended),
-        Transition::On(change) => Ok(go_on(program, insn, Some(change), here)),
+        Transition::On(change) => Ok(follow(program, insn, Some(change), here)),
         Transition::Fork { not_taken, taken } => {
-            leave(program, insn, taken, here, pending)?;
-            Ok(go_on(program, insn, not_taken, here))
+            push_branch(program, insn, taken, here, pending)?;
+            Ok(follow(program, insn, not_taken, here))
         }
     }
 }
 
-/// Makes one step of the walk: keeps the state at hand, if some jump leads to its slot, and makes its step.
+/// Makes one step of the walk: keeps the current state, if some jump leads to its slot, and makes its step.
 ///
 /// # Errors
 /// The refusal of the step; V19 where memory runs out for a state that is kept or left pending.
-pub(crate) fn make_step<D: Domain>(
+pub(crate) fn step<D: Domain>(
     program: &Program,
     kept: &mut KeptStates<D>,
     here: &mut Pending<D>,
@@ -249,7 +249,7 @@ pub fn verify_with<D: Domain, L: Ledger>(
 /// # Errors
 /// A fault of the layout: the first faulty jump (V1 to V3), or a last instruction that is no exit (V4). Else the
 /// first refusal on the paths (V5 to V16, V18, V20), each a step at which a loose run is stuck; V17 at the instruction
-/// whose step would pass the budget; V19 where memory runs out, at the instruction in hand, or at slot 0 before the
+/// whose step would pass the budget; V19 where memory runs out, at the current instruction, or at slot 0 before the
 /// first step. In code that adds or subtracts two registers, V10 and V11 at a sum with a constant may come where no run
 /// is stuck: see docs/DECISIONS.md, "Refusals are stuck runs".
 pub fn verify<L: Ledger>(

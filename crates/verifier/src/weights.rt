@@ -16,7 +16,7 @@ pub(crate) const WHOLE: usize = 1_016;
 /// What a kept state weighs in a search, at most.
 pub(crate) const KEPT_STATE: usize = 1 + PART + WHOLE;
 
-/// The weight at which the search of a unit of work is left, and goes on in the next one.
+/// The weight at which the search of a unit of work is left, and continues in the next one.
 pub(crate) const SEARCH: usize = 8_192;
 
 /// The most that a unit of work weighs.

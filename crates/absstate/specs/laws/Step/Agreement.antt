@@ -1,4 +1,4 @@
--- Internal. Abstract answers that agree with the machine's: an accepted step where the machine goes on, and a refusal
+-- Internal. Abstract answers that agree with the machine's: an accepted step where the machine continues, and a refusal
 -- where it is stuck for the same reason, as far as that is claimed.
 use Rattle.std.proofs.Common.{◌≡◌, Result, Ok, Err, refl}
 use Rattle.basics.specs.Fallible.{◌>>=◌}

@@ -88,11 +88,11 @@ landed_at : (s : State) (result : Result ℕ Reason) (n : ℕ) → result ≡ Ok
 landed_at s (Ok m) n e = ap (λ (k : ℕ). Goes (record s { slot = k })) (same_slot m n e)
 landed_at s (Err f) n e = absurd cc
 
--- the slot that a branch leads to, by how the instruction goes on
+-- the slot that a branch leads to, by how the instruction continues
 slot_by : (code : List Insn) (slot n : ℕ) (i : Insn) (branch : Branch) (f : Flow) → flow_of i ≡ f → branch_slot code slot i branch ≡ Ok n → flow_slot code slot (slots_of i) f branch ≡ Ok n
 slot_by code slot n i branch f is leads = sym (ap (λ (g : Flow). flow_slot code slot (slots_of i) g branch) is) ∙ leads
 
--- a jump, and either branch of a conditional one, go on at the slot that they lead to
+-- a jump, and either branch of a conditional one, continue at the slot that they lead to
 pub jump_goes : (w : Environment) (code : List Insn) (s : State) (i : Insn) (offset : ℤ) (branch : Branch) (n : ℕ) → flow_of i ≡ flow.Jumps offset → branch_slot code s.slot i branch ≡ Ok n → step_by_effect w code s i (Ok (effect.Jump offset)) ≡ Goes (record s { slot = n })
 jump_goes w code s i offset branch n is leads = landed_at s (target code s.slot offset) n (slot_by code s.slot n i branch (flow.Jumps offset) is leads)
 

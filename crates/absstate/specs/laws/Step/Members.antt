@@ -131,7 +131,7 @@ module _ {D : Type 0} (Member : D → ℕ → Type 0) (mode : Mode) (places : Pl
   pub member_written : (r : Reg) (k : AbstractValue D) (v : Value) (n : ℕ) → IsHeld Member places s.memory.length k v → IsProper v → IsMemberAt Member mode places (with_value a r k) (record s { slot = n; registers = registers_with s r v })
   member_written r k v n held proper = member_put r k v n (held_value Member mode places s.memory.length k v held) proper
 
-  -- it holds nothing
+  -- it is uninitialised
   pub member_forgotten : (r : Reg) (n : ℕ) → IsMemberAt Member mode places (with_value a r known.Nothing) (record s { slot = n; registers = registers_with s r value.Nothing })
   member_forgotten r n = member_put r known.Nothing value.Nothing n (λ e. refl) tt
 
@@ -331,7 +331,7 @@ module _ {D : Type 0} (Member : D → ℕ → Type 0) (mode : Mode) (places : Pl
 
   -- ---- a pointer is stored
 
-  -- the cells of its group hold nothing
+  -- the cells of its group are uninitialised
   unset_cell : (g : ℕ) → g < GROUPS → (j : ℕ) → j < 512 → IsMarkedCell mode (is_marked (unmarked_from a.marks (8 * g) 8) j) (slice_index_or (overlay (8 * g) no_cells s.memory.stack.cells) j None)
   unset_cell g below j lt = elim (cases_lt j (8 * g)) [
     | inl before ↦

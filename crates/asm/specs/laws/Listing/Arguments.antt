@@ -23,7 +23,7 @@ IsSmall (Natural n) = n < 2 ^ 64
 IsSmall (Address base displacement) = IsShortNumber displacement
 IsSmall (Distance n) = IsShortNumber n
 
--- a text has these tokens, where no word goes on after it
+-- a text has these tokens, where no word continues after it
 abbrev Gives : List ℕ → List Token → Type 0
 Gives text front = (line : List ℕ) → EndsWord line → tokens_of (text ++ line) ≡ front ++ tokens_of line
 
@@ -37,7 +37,7 @@ SpelledBy Spells text = (front : List Token) × Gives text front × Spells front
 word_gives : (t : Token) → IsWord t → Gives t (t ∷ [])
 word_gives t h = λ line k. word_read t line h k
 
--- the tokens of two texts, where no word goes on in the second
+-- the tokens of two texts, where no word continues in the second
 joined : (text more : List ℕ) (front after : List Token) → Gives text front → Gives more after
     → ((line : List ℕ) → EndsWord line → EndsWord (more ++ line)) → Gives (text ++ more) (front ++ after)
 joined text more front after h k ends = λ line e.

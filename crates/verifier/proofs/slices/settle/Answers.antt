@@ -26,8 +26,8 @@ pub returns-then-at-budget-clause-refused : goal.returns-then-at-budget-clause-r
 returns-then-at-budget-clause-refused g c =
     refuses_it g.D.Domain.ops g.D.Domain.Member c.args.program.now c.args.budget c.args.at.now c.requires.pauses c.requires.within c.deref.result.now c.requires.waits c.deref.ensures _ (inr refl)
 
-pub make_step-requires : goal.make_step-requires
-make_step-requires g c =
+pub step-requires : goal.step-requires
+step-requires g c =
     let walks =
     walks_here g.D.Domain.ops g.D.Domain.Member c.args.program.now c.args.budget c.args.at.now c.requires.pauses c.requires.within c.deref_mut.result.now c.requires.waits c.deref_mut.ensures.value
     (ap (λ (p : Pending g.row.D.Denot). is_covered g.D.Domain.ops (kept_at c.args.at.now.kept) p) c.deref_mut.ensures.value ∙ sym c.requires.covered ∙ c.if-covered.false) in (
@@ -56,9 +56,9 @@ pub returns-clause-settled : goal.returns-clause-settled
 returns-clause-settled g c =
     unit_steps g.D.Domain.ops g.D.Domain.Member c.args.program.now c.args.budget c.args.at.now c.requires.pauses c.requires.within c.deref_mut.result.now c.requires.waits c.deref_mut.ensures.value
     (ap (λ (p : Pending g.row.D.Denot). is_covered g.D.Domain.ops (kept_at c.args.at.now.kept) p) c.deref_mut.ensures.value ∙ sym c.requires.covered ∙ c.if-covered.false)
-    _ (state_to_follow c.in_ok-at.field-0 c.make_step.new.here) c.args.steps.now c.tick.new.self (omega (arith, c.tick.ensures)) (omega (arith, c.if-at-budget.false, c.requires.within)) refl refl c.in_ok-at.ensures.kept c.in_ok-at.ensures.made refl
+    _ (state_to_follow c.in_ok-at.field-0 c.step.new.here) c.args.steps.now c.tick.new.self (omega (arith, c.tick.ensures)) (omega (arith, c.if-at-budget.false, c.requires.within)) refl refl c.in_ok-at.ensures.kept c.in_ok-at.ensures.made refl
 
 pub returns-clause-unit : goal.returns-clause-unit
 returns-clause-unit g c =
     steps_on g.D.Domain.ops g.D.Domain.Member c.args.program.now c.args.budget c.args.at.now c.requires.pauses c.requires.within c.deref_mut.result.now c.requires.waits c.deref_mut.ensures.value
-    _ c.make_step.new.pending.items _ (state_to_follow c.in_ok-at.field-0 c.make_step.new.here) refl c.in_ok-at.ensures.made refl
+    _ c.step.new.pending.items _ (state_to_follow c.in_ok-at.field-0 c.step.new.here) refl c.in_ok-at.ensures.made refl

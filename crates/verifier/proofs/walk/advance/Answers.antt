@@ -15,8 +15,8 @@ use Rattle.verifier.proofs.walk.advance.Goals as goal
 pub transition-requires : goal.transition-requires
 transition-requires g c = state_fits (lone g.row.D.mir) g.met.D.Domain.small
 
-pub leave-requires : goal.leave-requires
-leave-requires g c = (
+pub push_branch-requires : goal.push_branch-requires
+push_branch-requires g c = (
   pending_fits (lone g.row.D.mir) g.met.D.Domain.small,
   (
     c.requires.few,
@@ -27,8 +27,8 @@ leave-requires g c = (
   ),
 )
 
-pub go_on-requires : goal.go_on-requires
-go_on-requires g c = (
+pub follow-requires : goal.follow-requires
+follow-requires g c = (
   pending_fits (lone g.row.D.mir) g.met.D.Domain.small,
   (
     c.requires.few,
@@ -39,8 +39,8 @@ go_on-requires g c = (
   ),
 )
 
-pub go_on-requires-in-Fork : goal.go_on-requires-in-Fork
-go_on-requires-in-Fork g c = (
+pub follow-requires-in-Fork : goal.follow-requires-in-Fork
+follow-requires-in-Fork g c = (
   pending_fits (lone g.row.D.mir) g.met.D.Domain.small,
   (
     c.requires.few,
@@ -67,13 +67,13 @@ pub returns-in-On-clause-advanced : goal.returns-in-On-clause-advanced
 returns-in-On-clause-advanced g c =
     let fits : Fits c.in-Begins.insn = c.transition.ensures.fits in
     let step_is : abstract_step g.D.Domain.ops c.args.here.now.state c.in-Begins.insn ≡ Ok (next_of c.args.here.now.state c.in_ok-transition.transition) = search rules in
-    advances g.D.Domain.ops c.args.program.now c.args.here.now c.args.pending.now.items c.args.pending.now.items c.in-Begins.insn (sym c.fetch.ensures ∙ c.in-Begins.is) fits (next_of c.args.here.now.state c.in_ok-transition.transition) step_is (state_to_follow c.go_on.result c.go_on.new.here) [] (sym (append-nil c.args.pending.now.items))
-    (subst (λ (e : Transition g.row.D.Denot). GoesOn c.args.program.now c.args.here.now.slot c.in-Begins.insn (next_of c.args.here.now.state e) (state_to_follow c.go_on.result c.go_on.new.here) []) (sym c.in-On.is) (c.go_on.ensures, refl))
+    advances g.D.Domain.ops c.args.program.now c.args.here.now c.args.pending.now.items c.args.pending.now.items c.in-Begins.insn (sym c.fetch.ensures ∙ c.in-Begins.is) fits (next_of c.args.here.now.state c.in_ok-transition.transition) step_is (state_to_follow c.follow.result c.follow.new.here) [] (sym (append-nil c.args.pending.now.items))
+    (subst (λ (e : Transition g.row.D.Denot). GoesOn c.args.program.now c.args.here.now.slot c.in-Begins.insn (next_of c.args.here.now.state e) (state_to_follow c.follow.result c.follow.new.here) []) (sym c.in-On.is) (c.follow.ensures, refl))
 
-pub returns-in_ok-leave-in-Fork-clause-advanced : goal.returns-in_ok-leave-in-Fork-clause-advanced
-returns-in_ok-leave-in-Fork-clause-advanced g c =
+pub returns-in_ok-push_branch-in-Fork-clause-advanced : goal.returns-in_ok-push_branch-in-Fork-clause-advanced
+returns-in_ok-push_branch-in-Fork-clause-advanced g c =
     let fits : Fits c.in-Begins.insn = c.transition.ensures.fits in
     let step_is : abstract_step g.D.Domain.ops c.args.here.now.state c.in-Begins.insn ≡ Ok (next_of c.args.here.now.state c.in_ok-transition.transition) = search rules in
-    let left = c.in_ok-leave-in-Fork.ensures.left in
-    advances g.D.Domain.ops c.args.program.now c.args.here.now c.args.pending.now.items c.leave.new.pending.items c.in-Begins.insn (sym c.fetch.ensures ∙ c.in-Begins.is) fits (next_of c.args.here.now.state c.in_ok-transition.transition) step_is (state_to_follow c.go_on-in-Fork.result c.go_on-in-Fork.new.here) left.0 left.1
-    (subst (λ (e : Transition g.row.D.Denot). GoesOn c.args.program.now c.args.here.now.slot c.in-Begins.insn (next_of c.args.here.now.state e) (state_to_follow c.go_on-in-Fork.result c.go_on-in-Fork.new.here) left.0) (sym c.in-Fork.is) (c.go_on-in-Fork.ensures, left.2))
+    let left = c.in_ok-push_branch-in-Fork.ensures.left in
+    advances g.D.Domain.ops c.args.program.now c.args.here.now c.args.pending.now.items c.push_branch.new.pending.items c.in-Begins.insn (sym c.fetch.ensures ∙ c.in-Begins.is) fits (next_of c.args.here.now.state c.in_ok-transition.transition) step_is (state_to_follow c.follow-in-Fork.result c.follow-in-Fork.new.here) left.0 left.1
+    (subst (λ (e : Transition g.row.D.Denot). GoesOn c.args.program.now c.args.here.now.slot c.in-Begins.insn (next_of c.args.here.now.state e) (state_to_follow c.follow-in-Fork.result c.follow-in-Fork.new.here) left.0) (sym c.in-Fork.is) (c.follow-in-Fork.ensures, left.2))

@@ -7,7 +7,7 @@ overflow_add-end g c =
     let fits = fits_stored c.self.inside.datagrams.items c.self.inside.count c.self.inside.end c.index.result.now c.self.invariant.within (omega (arith, c.if-self-len.true, c.len.ensures, c.self.inside.datagrams.ok.0)) c.index.ensures in
     omega (arith, fits, c.self.invariant.inside, c.self.inside.bytes.ok.0, c.self.inside.bytes.small)
 
-pub slice_bounds-hand_on-end : goal.slice_bounds-hand_on-end
-slice_bounds-hand_on-end g c =
+pub slice_bounds-copy_to-end : goal.slice_bounds-copy_to-end
+slice_bounds-copy_to-end g c =
     let fits = fits_stored c.self.inside.datagrams.items c.self.inside.count c.self.inside.end c.index.result.now c.self.invariant.within (omega (arith, c.if-self-len.true, c.len.ensures, c.self.inside.datagrams.ok.0)) c.index.ensures in
     omega (arith, fits, c.self.invariant.inside, c.self.inside.bytes.ok.0, c.deref.ensures.len)

@@ -5,7 +5,7 @@ use Rattle.semantics.specs.declared.limits.TheConstants.{MAX_DATAGRAM}
 use Rattle.server.specs.Ahead.{Nothing, Fault}
 use Rattle.server.specs.Filling.{waiting_in, stored_datagram, AreWithin}
 use Rattle.server.specs.declared.ahead.Stored.{Stored}
-use Rattle.server.specs.declared.ahead.Then.TheVariants as then
+use Rattle.server.specs.declared.ahead.BatchEnd.TheVariants as then
 use Rattle.server.proofs.Waits.{within_more, within_push, one_more, one_ends, received, datagram_waits, long_waits, one_more_at_most}
 use Rattle.server.proofs.ahead.Ahead.receive_one.Goals as goal
 use Rattle.server.proofs.ahead.Ahead.receive_one.Goals.{in_default-receive_at-via-in-Ok-Some+else-n-le-MAX_DATAGRAM, in_default-receive_at-via-in_default}

@@ -16,27 +16,27 @@ stops_of ops Member code other budget made slice old new path ended same stops =
 
 pub invariant_of-result : goal.invariant_of-result
 invariant_of-result g c =
-    let stops = stops_of g.D.Domain.ops g.D.Domain.Member c.self.inside.translation c.program.result.now c.self.inside.budget c.self.inside.at.made c.args.slice c.args.steps.now c.work_on.new.steps c.in-Ok-Ended.field-0 c.in-Ok-Ended.field-0-is c.program.ensures c.in-Ok-Ended.ensures.ended in
+    let stops = stops_of g.D.Domain.ops g.D.Domain.Member c.self.inside.translation c.program.result.now c.self.inside.budget c.self.inside.at.made c.args.slice c.args.steps.now c.run_slice.new.steps c.in-Ok-Ended.field-0 c.in-Ok-Ended.field-0-is c.program.ensures c.in-Ok-Ended.ensures.ended in
     record { safe = ended_safe g.D.Domain.ops g.D.Domain.Member g.met.D.Domain.laws c.self.inside.translation c.self.invariant.0.laid_out stops.made stops.end.0 stops.end.1; few = c.self.invariant.0.few }
 
 pub returns-in-Err : goal.returns-in-Err
 returns-in-Err g c =
-    let stops : Stops {T = Unit {0}} g.D.Domain.ops g.D.Domain.Member c.self.inside.translation c.self.inside.budget c.self.inside.at.made c.args.slice c.args.steps.now c.work_on.new.steps (Err c.in-Err.e) =
-    subst (λ (code : List Insn). Stops {T = Unit {0}} g.D.Domain.ops g.D.Domain.Member code c.self.inside.budget c.self.inside.at.made c.args.slice c.args.steps.now c.work_on.new.steps (Err c.in-Err.e)) c.program.ensures c.in-Err.ensures.ended in
-    subst (λ (w : Walking g.row.D.Denot). EndsIn g.D.Domain.ops g.D.Domain.Member w c.args.slice c.args.steps.now c.work_on.new.steps (Err c.in-Err.e)) c.self.view_is
-    (ends_slice g.D.Domain.ops g.D.Domain.Member g.met.D.Domain.laws _ c.self.invariant.0 c.args.slice c.args.steps.now c.work_on.new.steps (Err c.in-Err.e) tt
-    (refused_with g.D.Domain.ops g.D.Domain.Member c.self.inside.translation c.self.inside.budget c.self.inside.at.made c.args.slice c.args.steps.now c.work_on.new.steps c.in-Err.e stops))
+    let stops : Stops {T = Unit {0}} g.D.Domain.ops g.D.Domain.Member c.self.inside.translation c.self.inside.budget c.self.inside.at.made c.args.slice c.args.steps.now c.run_slice.new.steps (Err c.in-Err.e) =
+    subst (λ (code : List Insn). Stops {T = Unit {0}} g.D.Domain.ops g.D.Domain.Member code c.self.inside.budget c.self.inside.at.made c.args.slice c.args.steps.now c.run_slice.new.steps (Err c.in-Err.e)) c.program.ensures c.in-Err.ensures.ended in
+    subst (λ (w : Walking g.row.D.Denot). EndsIn g.D.Domain.ops g.D.Domain.Member w c.args.slice c.args.steps.now c.run_slice.new.steps (Err c.in-Err.e)) c.self.view_is
+    (ends_slice g.D.Domain.ops g.D.Domain.Member g.met.D.Domain.laws _ c.self.invariant.0 c.args.slice c.args.steps.now c.run_slice.new.steps (Err c.in-Err.e) tt
+    (refused_with g.D.Domain.ops g.D.Domain.Member c.self.inside.translation c.self.inside.budget c.self.inside.at.made c.args.slice c.args.steps.now c.run_slice.new.steps c.in-Err.e stops))
 
 pub returns-in-Ok-Ended : goal.returns-in-Ok-Ended
 returns-in-Ok-Ended g c =
-    subst (λ (w : Walking g.row.D.Denot). EndsIn g.D.Domain.ops g.D.Domain.Member w c.args.slice c.args.steps.now c.work_on.new.steps (Ok c.self.inside.translation)) c.self.view_is
-    (ends_slice g.D.Domain.ops g.D.Domain.Member g.met.D.Domain.laws _ c.self.invariant.0 c.args.slice c.args.steps.now c.work_on.new.steps (Ok c.self.inside.translation) refl
-    (stops_with g.D.Domain.ops g.D.Domain.Member c.self.inside.translation c.self.inside.budget c.self.inside.at.made c.args.slice c.args.steps.now c.work_on.new.steps tt c.self.inside.translation (stops_of g.D.Domain.ops g.D.Domain.Member c.self.inside.translation c.program.result.now c.self.inside.budget c.self.inside.at.made c.args.slice c.args.steps.now c.work_on.new.steps c.in-Ok-Ended.field-0 c.in-Ok-Ended.field-0-is c.program.ensures c.in-Ok-Ended.ensures.ended)))
+    subst (λ (w : Walking g.row.D.Denot). EndsIn g.D.Domain.ops g.D.Domain.Member w c.args.slice c.args.steps.now c.run_slice.new.steps (Ok c.self.inside.translation)) c.self.view_is
+    (ends_slice g.D.Domain.ops g.D.Domain.Member g.met.D.Domain.laws _ c.self.invariant.0 c.args.slice c.args.steps.now c.run_slice.new.steps (Ok c.self.inside.translation) refl
+    (stops_with g.D.Domain.ops g.D.Domain.Member c.self.inside.translation c.self.inside.budget c.self.inside.at.made c.args.slice c.args.steps.now c.run_slice.new.steps tt c.self.inside.translation (stops_of g.D.Domain.ops g.D.Domain.Member c.self.inside.translation c.program.result.now c.self.inside.budget c.self.inside.at.made c.args.slice c.args.steps.now c.run_slice.new.steps c.in-Ok-Ended.field-0 c.in-Ok-Ended.field-0-is c.program.ensures c.in-Ok-Ended.ensures.ended)))
 
 pub returns-in-Ok-Continues : goal.returns-in-Ok-Continues
 returns-in-Ok-Continues g c =
-    let done : IfContinues (HasDoneSlice g.D.Domain.ops g.D.Domain.Member c.self.inside.translation c.self.inside.budget c.self.inside.at c.work_on.new.at c.args.slice c.args.steps.now c.work_on.new.steps) Continues =
-    subst (λ (code : List Insn). IfContinues (HasDoneSlice g.D.Domain.ops g.D.Domain.Member code c.self.inside.budget c.self.inside.at c.work_on.new.at c.args.slice c.args.steps.now c.work_on.new.steps) Continues) c.program.ensures
-    (subst (λ (path : Path). IfContinues (HasDoneSlice g.D.Domain.ops g.D.Domain.Member c.program.result.now c.self.inside.budget c.self.inside.at c.work_on.new.at c.args.slice c.args.steps.now c.work_on.new.steps) path) c.in-Ok-Continues.field-0-is c.in-Ok-Continues.ensures.on) in
-    subst (λ (w : Walking g.row.D.Denot). GoesOnBy w (walking_at c.self.inside.translation c.self.inside.budget c.work_on.new.at) c.args.slice c.args.steps.now c.work_on.new.steps) c.self.view_is
-    (goes_on_slice g.D.Domain.ops g.D.Domain.Member c.self.inside.translation c.self.inside.budget c.self.inside.at c.work_on.new.at c.args.steps.now c.work_on.new.steps c.args.slice done)
+    let done : IfContinues (HasDoneSlice g.D.Domain.ops g.D.Domain.Member c.self.inside.translation c.self.inside.budget c.self.inside.at c.run_slice.new.at c.args.slice c.args.steps.now c.run_slice.new.steps) Continues =
+    subst (λ (code : List Insn). IfContinues (HasDoneSlice g.D.Domain.ops g.D.Domain.Member code c.self.inside.budget c.self.inside.at c.run_slice.new.at c.args.slice c.args.steps.now c.run_slice.new.steps) Continues) c.program.ensures
+    (subst (λ (path : Path). IfContinues (HasDoneSlice g.D.Domain.ops g.D.Domain.Member c.program.result.now c.self.inside.budget c.self.inside.at c.run_slice.new.at c.args.slice c.args.steps.now c.run_slice.new.steps) path) c.in-Ok-Continues.field-0-is c.in-Ok-Continues.ensures.on) in
+    subst (λ (w : Walking g.row.D.Denot). GoesOnBy w (walking_at c.self.inside.translation c.self.inside.budget c.run_slice.new.at) c.args.slice c.args.steps.now c.run_slice.new.steps) c.self.view_is
+    (goes_on_slice g.D.Domain.ops g.D.Domain.Member c.self.inside.translation c.self.inside.budget c.self.inside.at c.run_slice.new.at c.args.steps.now c.run_slice.new.steps c.args.slice done)

@@ -16,27 +16,27 @@ stops_of ops Member code other budget made slice old new path ended same stops =
 
 pub invariant_of-result : goal.invariant_of-result
 invariant_of-result g c =
-    let stops = stops_of g.D.Domain.ops g.D.Domain.Member c.self.inside.translation c.program.result.now c.self.inside.budget c.self.inside.at.made 1 c.args.steps.now c.step_on.new.steps c.in-Ok-Ended.field-0 c.in-Ok-Ended.field-0-is c.program.ensures c.in-Ok-Ended.ensures.ended in
+    let stops = stops_of g.D.Domain.ops g.D.Domain.Member c.self.inside.translation c.program.result.now c.self.inside.budget c.self.inside.at.made 1 c.args.steps.now c.step_next.new.steps c.in-Ok-Ended.field-0 c.in-Ok-Ended.field-0-is c.program.ensures c.in-Ok-Ended.ensures.ended in
     record { safe = ended_safe g.D.Domain.ops g.D.Domain.Member g.met.D.Domain.laws c.self.inside.translation c.self.invariant.0.laid_out stops.made stops.end.0 stops.end.1; few = c.self.invariant.0.few }
 
 pub returns-in-Err-clause-slice : goal.returns-in-Err-clause-slice
 returns-in-Err-clause-slice g c =
-    let stops : Stops {T = Unit {0}} g.D.Domain.ops g.D.Domain.Member c.self.inside.translation c.self.inside.budget c.self.inside.at.made 1 c.args.steps.now c.step_on.new.steps (Err c.in-Err.refusal) =
-    subst (λ (code : List Insn). Stops {T = Unit {0}} g.D.Domain.ops g.D.Domain.Member code c.self.inside.budget c.self.inside.at.made 1 c.args.steps.now c.step_on.new.steps (Err c.in-Err.refusal)) c.program.ensures c.in-Err.ensures.ended in
-    subst (λ (w : Walking g.row.D.Denot). EndsIn g.D.Domain.ops g.D.Domain.Member w 1 c.args.steps.now c.step_on.new.steps (Err c.in-Err.refusal)) c.self.view_is
-    (ends_slice g.D.Domain.ops g.D.Domain.Member g.met.D.Domain.laws _ c.self.invariant.0 1 c.args.steps.now c.step_on.new.steps (Err c.in-Err.refusal) tt
-    (refused_with g.D.Domain.ops g.D.Domain.Member c.self.inside.translation c.self.inside.budget c.self.inside.at.made 1 c.args.steps.now c.step_on.new.steps c.in-Err.refusal stops))
+    let stops : Stops {T = Unit {0}} g.D.Domain.ops g.D.Domain.Member c.self.inside.translation c.self.inside.budget c.self.inside.at.made 1 c.args.steps.now c.step_next.new.steps (Err c.in-Err.refusal) =
+    subst (λ (code : List Insn). Stops {T = Unit {0}} g.D.Domain.ops g.D.Domain.Member code c.self.inside.budget c.self.inside.at.made 1 c.args.steps.now c.step_next.new.steps (Err c.in-Err.refusal)) c.program.ensures c.in-Err.ensures.ended in
+    subst (λ (w : Walking g.row.D.Denot). EndsIn g.D.Domain.ops g.D.Domain.Member w 1 c.args.steps.now c.step_next.new.steps (Err c.in-Err.refusal)) c.self.view_is
+    (ends_slice g.D.Domain.ops g.D.Domain.Member g.met.D.Domain.laws _ c.self.invariant.0 1 c.args.steps.now c.step_next.new.steps (Err c.in-Err.refusal) tt
+    (refused_with g.D.Domain.ops g.D.Domain.Member c.self.inside.translation c.self.inside.budget c.self.inside.at.made 1 c.args.steps.now c.step_next.new.steps c.in-Err.refusal stops))
 
 pub returns-in-Ok-Ended-clause-slice : goal.returns-in-Ok-Ended-clause-slice
 returns-in-Ok-Ended-clause-slice g c =
-    subst (λ (w : Walking g.row.D.Denot). EndsIn g.D.Domain.ops g.D.Domain.Member w 1 c.args.steps.now c.step_on.new.steps (Ok c.self.inside.translation)) c.self.view_is
-    (ends_slice g.D.Domain.ops g.D.Domain.Member g.met.D.Domain.laws _ c.self.invariant.0 1 c.args.steps.now c.step_on.new.steps (Ok c.self.inside.translation) refl
-    (stops_with g.D.Domain.ops g.D.Domain.Member c.self.inside.translation c.self.inside.budget c.self.inside.at.made 1 c.args.steps.now c.step_on.new.steps tt c.self.inside.translation (stops_of g.D.Domain.ops g.D.Domain.Member c.self.inside.translation c.program.result.now c.self.inside.budget c.self.inside.at.made 1 c.args.steps.now c.step_on.new.steps c.in-Ok-Ended.field-0 c.in-Ok-Ended.field-0-is c.program.ensures c.in-Ok-Ended.ensures.ended)))
+    subst (λ (w : Walking g.row.D.Denot). EndsIn g.D.Domain.ops g.D.Domain.Member w 1 c.args.steps.now c.step_next.new.steps (Ok c.self.inside.translation)) c.self.view_is
+    (ends_slice g.D.Domain.ops g.D.Domain.Member g.met.D.Domain.laws _ c.self.invariant.0 1 c.args.steps.now c.step_next.new.steps (Ok c.self.inside.translation) refl
+    (stops_with g.D.Domain.ops g.D.Domain.Member c.self.inside.translation c.self.inside.budget c.self.inside.at.made 1 c.args.steps.now c.step_next.new.steps tt c.self.inside.translation (stops_of g.D.Domain.ops g.D.Domain.Member c.self.inside.translation c.program.result.now c.self.inside.budget c.self.inside.at.made 1 c.args.steps.now c.step_next.new.steps c.in-Ok-Ended.field-0 c.in-Ok-Ended.field-0-is c.program.ensures c.in-Ok-Ended.ensures.ended)))
 
 pub returns-in-Ok-Continues-clause-slice : goal.returns-in-Ok-Continues-clause-slice
 returns-in-Ok-Continues-clause-slice g c =
-    let done : IfContinues (HasSettled g.D.Domain.ops g.D.Domain.Member c.self.inside.translation c.self.inside.budget c.self.inside.at c.step_on.new.at c.args.steps.now c.step_on.new.steps) Continues =
-    subst (λ (code : List Insn). IfContinues (HasSettled g.D.Domain.ops g.D.Domain.Member code c.self.inside.budget c.self.inside.at c.step_on.new.at c.args.steps.now c.step_on.new.steps) Continues) c.program.ensures
-    (subst (λ (path : Path). IfContinues (HasSettled g.D.Domain.ops g.D.Domain.Member c.program.result.now c.self.inside.budget c.self.inside.at c.step_on.new.at c.args.steps.now c.step_on.new.steps) path) c.in-Ok-Continues.field-0-is c.in-Ok-Continues.ensures.on) in
-    subst (λ (w : Walking g.row.D.Denot). GoesOnBy w (walking_at c.self.inside.translation c.self.inside.budget c.step_on.new.at) 1 c.args.steps.now c.step_on.new.steps) c.self.view_is
-    (goes_on_step g.D.Domain.ops g.D.Domain.Member c.self.inside.translation c.self.inside.budget c.self.inside.at c.step_on.new.at c.args.steps.now c.step_on.new.steps c.self.invariant.0 c.self.invariant.1 done c.in-Ok-Continues.ensures.ahead)
+    let done : IfContinues (HasSettled g.D.Domain.ops g.D.Domain.Member c.self.inside.translation c.self.inside.budget c.self.inside.at c.step_next.new.at c.args.steps.now c.step_next.new.steps) Continues =
+    subst (λ (code : List Insn). IfContinues (HasSettled g.D.Domain.ops g.D.Domain.Member code c.self.inside.budget c.self.inside.at c.step_next.new.at c.args.steps.now c.step_next.new.steps) Continues) c.program.ensures
+    (subst (λ (path : Path). IfContinues (HasSettled g.D.Domain.ops g.D.Domain.Member c.program.result.now c.self.inside.budget c.self.inside.at c.step_next.new.at c.args.steps.now c.step_next.new.steps) path) c.in-Ok-Continues.field-0-is c.in-Ok-Continues.ensures.on) in
+    subst (λ (w : Walking g.row.D.Denot). GoesOnBy w (walking_at c.self.inside.translation c.self.inside.budget c.step_next.new.at) 1 c.args.steps.now c.step_next.new.steps) c.self.view_is
+    (goes_on_step g.D.Domain.ops g.D.Domain.Member c.self.inside.translation c.self.inside.budget c.self.inside.at c.step_next.new.at c.args.steps.now c.step_next.new.steps c.self.invariant.0 c.self.invariant.1 done c.in-Ok-Continues.ensures.ahead)

@@ -2,7 +2,7 @@ use Rattle.std.proofs.Common.{ℕ, ◌+◌, Option, refl, subst, arith}
 use Rattle.std.specs.Prelude.{IfSome}
 use Rattle.verifier.specs.Slices.{HasDoneUnit}
 use Rattle.verifier.proofs.Slicing.{none_worked, one_worked, worked_from}
-use Rattle.verifier.proofs.slices.work_on.Goals as goal
+use Rattle.verifier.proofs.slices.run_slice.Goals as goal
 
 pub loop-left-init : goal.loop-left-init
 loop-left-init g c = record {
@@ -16,9 +16,9 @@ loop-left-init g c = record {
 
 pub loop-left-preserved : goal.loop-left-preserved
 loop-left-preserved g c =
-    let unit : HasDoneUnit g.D.Domain.ops g.D.Domain.Member c.args.program.now c.args.budget c.loop-left.at c.work.new.at c.loop-left.steps c.work.new.steps c.in-Some.weight =
-    subst (λ (done : Option ℕ). IfSome done (HasDoneUnit g.D.Domain.ops g.D.Domain.Member c.args.program.now c.args.budget c.loop-left.at c.work.new.at c.loop-left.steps c.work.new.steps)) c.in-Some.is c.in_ok-weight.ensures.on in
-    let worked = one_worked g.D.Domain.ops g.D.Domain.Member c.args.program.now c.args.budget _ c.loop-left.at c.work.new.at c.loop-left.invariant.weight c.in-Some.weight c.args.steps.now c.loop-left.steps c.work.new.steps c.loop-left.invariant.worked unit.worked in
+    let unit : HasDoneUnit g.D.Domain.ops g.D.Domain.Member c.args.program.now c.args.budget c.loop-left.at c.run_unit.new.at c.loop-left.steps c.run_unit.new.steps c.in-Some.weight =
+    subst (λ (done : Option ℕ). IfSome done (HasDoneUnit g.D.Domain.ops g.D.Domain.Member c.args.program.now c.args.budget c.loop-left.at c.run_unit.new.at c.loop-left.steps c.run_unit.new.steps)) c.in-Some.is c.in_ok-weight.ensures.on in
+    let worked = one_worked g.D.Domain.ops g.D.Domain.Member c.args.program.now c.args.budget _ c.loop-left.at c.run_unit.new.at c.loop-left.invariant.weight c.in-Some.weight c.args.steps.now c.loop-left.steps c.run_unit.new.steps c.loop-left.invariant.worked unit.worked in
     let none = c.loop-left.invariant.none (omega (arith, c.loop-left-test.true)) in
     record {
       weight = c.loop-left.invariant.weight + c.in-Some.weight;

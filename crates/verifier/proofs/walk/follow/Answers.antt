@@ -1,5 +1,5 @@
 use Rattle.std.proofs.Common.{rules}
-use Rattle.verifier.proofs.walk.go_on.Goals as goal
+use Rattle.verifier.proofs.walk.follow.Goals as goal
 
 pub returns-in_default : goal.returns-in_default
 returns-in_default g c = search rules

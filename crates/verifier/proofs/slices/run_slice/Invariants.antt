@@ -2,7 +2,7 @@
 use Rattle.std.proofs.Common.{◌≡◌, ℕ, ◌+◌, ◌<◌, ◌≤◌}
 use Rattle.verifier.specs.Slices.{HasWorked}
 use Rattle.verifier.specs.declared.weights.TheConstants.{HEAVIEST}
-use Rattle.verifier.proofs.slices.work_on.Given as goal
+use Rattle.verifier.proofs.slices.run_slice.Given as goal
 
 abbrev pub invariant-loop-left : goal.invariant-loop-left
 invariant-loop-left g l = record {
