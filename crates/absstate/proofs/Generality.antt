@@ -40,9 +40,9 @@ two_changed a dst src left apart = by_cases (number_of dst == number_of src) ref
 
 pub narrows_both : {D : Type 0} (a : AbsState D) → NarrowsBoth a
 narrows_both a = record {
-  left = λ dst src left apart lt. ap (λ (s : AbsState _). abstract_at s.registers dst) (two_changed a dst src left apart)
-      ∙ get_or-set_other (slice_set a.registers (number_of dst) (Scalar left.0)) (number_of src) (number_of dst) (Scalar left.1) Nothing apart
-      ∙ get_or-set_same a.registers (number_of dst) (Scalar left.0) Nothing lt;
-  right = λ dst src left apart lt. ap (λ (s : AbsState _). abstract_at s.registers src) (two_changed a dst src left apart)
-      ∙ get_or-set_same (slice_set a.registers (number_of dst) (Scalar left.0)) (number_of src) (Scalar left.1) Nothing (omega (arith, lt, length-set a.registers (number_of dst) (Scalar left.0)));
+  left = λ dst src left apart lt. ap (λ (s : AbsState _). abstract_at s.values dst) (two_changed a dst src left apart)
+      ∙ get_or-set_other (slice_set a.values (number_of dst) (Scalar left.0)) (number_of src) (number_of dst) (Scalar left.1) Nothing apart
+      ∙ get_or-set_same a.values (number_of dst) (Scalar left.0) Nothing lt;
+  right = λ dst src left apart lt. ap (λ (s : AbsState _). abstract_at s.values src) (two_changed a dst src left apart)
+      ∙ get_or-set_same (slice_set a.values (number_of dst) (Scalar left.0)) (number_of src) (Scalar left.1) Nothing (omega (arith, lt, length-set a.values (number_of dst) (Scalar left.0)));
 }

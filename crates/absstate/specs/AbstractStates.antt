@@ -64,7 +64,7 @@ unmarked_from m i (suc n) = unmarked_from (unmark m i) (suc i) n
 -- before the first instruction r1 holds the context and r10 the end of the stack
 abbrev pub first_abstract_state : {D : Type 0} → AbsState D
 first_abstract_state = record {
-  registers = Nothing ∷ Ctx ∷ Nothing ∷ Nothing ∷ Nothing ∷ Nothing ∷ Nothing ∷ Nothing ∷ Nothing ∷ Nothing ∷ Stack (pos 0) ∷ no_groups;
+  values = Nothing ∷ Ctx ∷ Nothing ∷ Nothing ∷ Nothing ∷ Nothing ∷ Nothing ∷ Nothing ∷ Nothing ∷ Nothing ∷ Stack (pos 0) ∷ no_groups;
   marks = no_marks;
   proved = pos 0;
 }
@@ -123,7 +123,7 @@ raised_value id n End = End
 
 -- the state with a register written
 abbrev pub with_value : {D : Type 0} → AbsState D → Reg → AbstractValue D → AbsState D
-with_value a r k = record a { registers = slice_set a.registers (number_of r) k }
+with_value a r k = record a { values = slice_set a.values (number_of r) k }
 
 -- the state in which the datagram has at least n bytes
 abbrev pub with_length : {D : Type 0} → AbsState D → ℤ → AbsState D
@@ -132,7 +132,7 @@ with_length a n = record a { proved = if int_lt a.proved n then n else a.proved 
 -- the state in which the datagram reaches n bytes from an anchor on: every register with that anchor gains by it
 abbrev pub with_reach : {D : Type 0} → AbsState D → Anchor → ℤ → AbsState D
 with_reach a First n = with_length a n
-with_reach a (Made id low high proved) n = record a { registers = map (raised_value id n) a.registers }
+with_reach a (Made id low high proved) n = record a { values = map (raised_value id n) a.values }
 
 -- a least reach, where a branch implies one
 abbrev pub with_least : {D : Type 0} → AbsState D → Anchor → Option ℤ → AbsState D
@@ -146,11 +146,11 @@ without_groups registers n i =
 
 -- the state in which n stack bytes from an index on are set
 abbrev pub with_marks : {D : Type 0} → AbsState D → ℕ → ℕ → AbsState D
-with_marks a i count = record a { registers = without_groups a.registers count i; marks = marks_from a.marks i count }
+with_marks a i count = record a { values = without_groups a.values count i; marks = marks_from a.marks i count }
 
 -- the state in which a group holds a pointer
 abbrev pub abstract_with_pointer : {D : Type 0} → AbsState D → ℕ → AbstractValue D → AbsState D
-abstract_with_pointer a g k = record a { registers = slice_set a.registers (group_index g) k; marks = unmarked_from a.marks (GROUP_BYTES * g) GROUP_BYTES }
+abstract_with_pointer a g k = record a { values = slice_set a.values (group_index g) k; marks = unmarked_from a.marks (GROUP_BYTES * g) GROUP_BYTES }
 
 -- the state after a call with an answer: r1 to r5 are uninitialised
 abbrev pub with_answer : {D : Type 0} → AbsState D → D → AbsState D

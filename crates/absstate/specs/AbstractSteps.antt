@@ -71,7 +71,7 @@ abstract_content (Data anchor k) = Ok (Data anchor k)
 abstract_content End = Ok End
 
 abbrev pub abstract_register_value : {D : Type 0} → AbsState D → Reg → Result (AbstractValue D) Reason
-abstract_register_value a r = abstract_content (abstract_at a.registers r)
+abstract_register_value a r = abstract_content (abstract_at a.values r)
 
 -- a register, or the imm as a word of the instruction's width
 abbrev pub operand_abstract : {D : Type 0} → Operations D → Width → AbsState D → Operand → Result (AbstractValue D) Reason
@@ -123,10 +123,10 @@ proved_within p = if int_lt p (negsuc 2097151) then negsuc 2097151 else if int_l
 
 -- an anchor of its own, with the next number that no register has
 abbrev pub made_anchor : {D : Type 0} → AbsState D → Anchor → ℤ → ℤ → Anchor
-made_anchor a anchor least greatest = Made (suc (greatest_id a.registers)) least greatest (proved_within (proved_of a anchor -ℤ (greatest -ℤ high_of anchor)))
+made_anchor a anchor least greatest = Made (suc (greatest_id a.values)) least greatest (proved_within (proved_of a anchor -ℤ (greatest -ℤ high_of anchor)))
 
 abbrev pub made_between : {D : Type 0} → AbsState D → Anchor → Bounds → ℤ → ℤ → Option (AbstractValue D)
-made_between a anchor b least greatest = if (is_one_sided b && int_le (pos (suc (greatest_id a.registers))) (pos 4294967295)) then Some (Data (made_anchor a anchor least greatest) (pos 0)) else None
+made_between a anchor b least greatest = if (is_one_sided b && int_le (pos (suc (greatest_id a.values))) (pos 4294967295)) then Some (Data (made_anchor a anchor least greatest) (pos 0)) else None
 
 abbrev pub made_sum : {D : Type 0} → AbsState D → Anchor → AluOp → Width → ℤ → Bounds → Option (AbstractValue D)
 made_sum a anchor op w k b = with_both (lowest op w (low_of anchor +ℤ k) b) (highest op w (high_of anchor +ℤ k) b) (made_between a anchor b)
@@ -297,7 +297,7 @@ is_known_pointer End = true
 
 -- whether one of the n cells from an index on lies in a group that is known to hold a pointer
 abbrev pub touches_known : {D : Type 0} → AbsState D → ℕ → ℕ → Bool
-touches_known a n i = list_any (λ j. is_known_pointer (group_at a.registers (group_of j))) (range_with_len i n)
+touches_known a n i = list_any (λ j. is_known_pointer (group_at a.values (group_of j))) (range_with_len i n)
 
 -- n cells from an index on may be read as bytes: no pointer's, and those that are set
 abbrev pub cells_readable : {D : Type 0} → AbsState D → ℕ → ℕ → Result (Unit {0}) Reason
@@ -321,7 +321,7 @@ known_pointer k = if is_known_pointer k then Some k else None
 
 abbrev pub known_in : {D : Type 0} → AbsState D → Option ℕ → Option (AbstractValue D)
 known_in a None = None
-known_in a (Some g) = known_pointer (group_at a.registers g)
+known_in a (Some g) = known_pointer (group_at a.values g)
 
 -- the state in which n bytes of a region are set
 abbrev pub with_region : {D : Type 0} → AbsState D → ℕ → Region → AbsState D

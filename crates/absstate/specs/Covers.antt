@@ -72,4 +72,4 @@ abbrev pub covers_memory : {D : Type 0} → AbsState D → AbsState D → Bool
 covers_memory a b = int_le a.proved b.proved && covers_marks a.marks.cells b.marks.cells
 
 abbrev pub covers : {D : Type 0} → Operations D → AbsState D → AbsState D → Bool
-covers ops a b = (covers_values ops a b a.registers b.registers && share_alike a.registers b.registers) && covers_memory a b
+covers ops a b = (covers_values ops a b a.values b.values && share_alike a.values b.values) && covers_memory a b

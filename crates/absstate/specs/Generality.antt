@@ -24,5 +24,5 @@ pub record CoversWider {D : Type 0} (ops : Operations D) (a b : AbsState D) : Ty
 
 -- a comparison of two registers leaves in each what the refinement leaves of it
 pub record NarrowsBoth {D : Type 0} (a : AbsState D) : Type 0 where
-  pub left : (dst src : Reg) (left : D × D) → number_of dst ≢ number_of src → number_of dst < length a.registers → abstract_at (with_operands a dst (operand.Reg src) left).registers dst ≡ Scalar left.0
-  pub right : (dst src : Reg) (left : D × D) → number_of dst ≢ number_of src → number_of src < length a.registers → abstract_at (with_operands a dst (operand.Reg src) left).registers src ≡ Scalar left.1
+  pub left : (dst src : Reg) (left : D × D) → number_of dst ≢ number_of src → number_of dst < length a.values → abstract_at (with_operands a dst (operand.Reg src) left).values dst ≡ Scalar left.0
+  pub right : (dst src : Reg) (left : D × D) → number_of dst ≢ number_of src → number_of src < length a.values → abstract_at (with_operands a dst (operand.Reg src) left).values src ≡ Scalar left.1

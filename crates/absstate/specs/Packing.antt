@@ -36,14 +36,14 @@ HoldGroups values chunks = (all_groups (joined chunks) ≡ values) × (length (j
 
 -- the state that is kept in these parts
 abbrev pub unpacked : {D : Type 0} → List (AbstractValue D) → List (AbstractValue D) → List ℕ → ℤ → AbsState D
-unpacked registers groups words proved = record { registers = registers ++ all_groups groups; marks = record { cells = marks_of words }; proved = proved }
+unpacked registers groups words proved = record { values = registers ++ all_groups groups; marks = record { cells = marks_of words }; proved = proved }
 
 -- a part of a state
 abbrev pub IsPartOf : {D : Type 0} → AbsState D → Part D → Type 0
 IsPartOf a part.Unknown = Unit {0}
 IsPartOf a (part.Proved proved) = a.proved ≡ proved
-IsPartOf a (part.Value index value proved) = (slice_index_or a.registers index Nothing ≡ value) × (a.proved ≡ proved)
-IsPartOf a (part.Linked first second) = (first < second) × (have_one_anchor (slice_index_or a.registers first Nothing) (slice_index_or a.registers second Nothing) ≡ true)
+IsPartOf a (part.Value index value proved) = (slice_index_or a.values index Nothing ≡ value) × (a.proved ≡ proved)
+IsPartOf a (part.Linked first second) = (first < second) × (have_one_anchor (slice_index_or a.values first Nothing) (slice_index_or a.values second Nothing) ≡ true)
 IsPartOf a (part.Word index word) = slice_index_or (words_of a.marks.cells) index 0 ≡ word
 
 -- a state does not cover another one, from which this part of it may tell it apart

@@ -118,12 +118,12 @@ lie_within links others = nat_lt links.count others.count || (links.firsts == ot
 
 abbrev pub state_signature : {D : Type 0} → Operations D → AbsState D → StateSignature
 state_signature ops a = record {
-  registers = value_bits ops 0 a.proved (take REGISTERS a.registers);
-  groups = value_bits ops REGISTERS a.proved (drop REGISTERS a.registers);
+  registers = value_bits ops 0 a.proved (take REGISTERS a.values);
+  groups = value_bits ops REGISTERS a.proved (drop REGISTERS a.values);
   marks = mark_bits 0 (words_of a.marks.cells);
-  margins = margins_of ops a.registers;
-  values = values_hash ops a.registers;
-  links = state_links a.registers;
+  margins = margins_of ops a.values;
+  values = values_hash ops a.values;
+  links = state_links a.values;
 }
 
 -- all bits of a word are bits of another one

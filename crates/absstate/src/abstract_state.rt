@@ -277,7 +277,7 @@ pub const VALUES: usize = REGISTERS + GROUPS;
 /// bytes of the stack, and a least length of the datagram, `proved`.
 #[derive(Debug, PartialEq, Eq)]
 pub struct AbsState<D> {
-    pub registers: [AbstractValue<D>; VALUES],
+    pub values: [AbstractValue<D>; VALUES],
     pub marks: Marks,
     pub proved: i64,
 }
@@ -299,11 +299,11 @@ impl<D: Copy> AbsState<D> {
     pub fn start() -> AbsState<D>
         ensures { result ≡ first_abstract_state }
     {
-        let mut registers = [AbstractValue::Nothing; VALUES];
-        registers[1] = AbstractValue::Ctx;
-        registers[10] = AbstractValue::Stack(0);
+        let mut values = [AbstractValue::Nothing; VALUES];
+        values[1] = AbstractValue::Ctx;
+        values[10] = AbstractValue::Stack(0);
         AbsState {
-            registers,
+            values,
             marks: Marks::none(),
             proved: 0,
         }
@@ -320,23 +320,23 @@ impl<D: Copy> AbsState<D> {
     pub(crate) fn set(&mut self, reg: Reg, known: AbstractValue<D>)
         ensures { self.new ≡ with_value self.old reg known }
     {
-        self.registers[reg.number() as usize] = known;
+        self.values[reg.number() as usize] = known;
     }
 
     /// Returns the pointer that a group is known to hold.
     pub(crate) fn group(&self, group: usize) -> AbstractValue<D>
         requires { group < GROUPS }
-        ensures { result ≡ group_at self.now.registers group }
+        ensures { result ≡ group_at self.now.values group }
     {
-        self.registers[REGISTERS + group]
+        self.values[REGISTERS + group]
     }
 
     /// Writes what is known of a group; a group of 64 or more is ignored.
     fn set_group(&mut self, group: usize, known: AbstractValue<D>)
-        ensures { self.new ≡ record self.old { registers = slice_set self.old.registers (group_index group) known } }
+        ensures { self.new ≡ record self.old { values = slice_set self.old.values (group_index group) known } }
     {
         if group < GROUPS {
-            self.registers[REGISTERS + group] = known;
+            self.values[REGISTERS + group] = known;
         }
     }
 
@@ -401,14 +401,14 @@ impl<D: Copy> AbsState<D> {
         };
         match anchor {
             Anchor::First => self.set_length(least),
-            Anchor::Made { id, .. } => raise(&mut self.registers, id, least),
+            Anchor::Made { id, .. } => raise(&mut self.values, id, least),
         }
     }
 
     /// Returns the greatest number of an anchor that a register names.
     pub(crate) fn greatest_id(&self) -> u32
-        ensures { result ≡ greatest_id self.now.registers }
+        ensures { result ≡ greatest_id self.now.values }
     {
-        greatest_id(&self.registers)
+        greatest_id(&self.values)
     }
 }

@@ -50,7 +50,7 @@ impl<D: Copy> Copy for Next<D> {}
 pub(crate) fn read<D: Copy>(state: &AbsState<D>, reg: Reg) -> Result<AbstractValue<D>, Reason>
     ensures { result ≡ abstract_register_value state.now reg }
 {
-    match state.registers[reg.number() as usize] {
+    match state.values[reg.number() as usize] {
         AbstractValue::Nothing => Err(Reason::UninitRegister),
         known => Ok(known),
     }

@@ -212,21 +212,17 @@ fn covers_memory<D: Copy>(state: &AbsState<D>, other: &AbsState<D>) -> bool
 fn covers_state<D: Domain>(state: &AbsState<D>, other: &AbsState<D>) -> bool
     ensures { result ≡ covers D.ops state.now other.now }
 {
-    let values = covers_values(
-        &state.registers,
-        &other.registers,
-        state.proved,
-        other.proved,
-    ) && share_alike(&state.registers, &other.registers);
+    let values = covers_values(&state.values, &other.values, state.proved, other.proved)
+        && share_alike(&state.values, &other.values);
     values && covers_memory(state, other)
 }
 
 /// Returns the values of the registers and the groups.
-pub(crate) fn registers_of<D: Copy>(state: &AbsState<D>) -> &[AbstractValue<D>]
-    ensures values { result.now ≡ state.now.registers }
-    ensures count { length state.now.registers ≡ 75 }
+pub(crate) fn values_of<D: Copy>(state: &AbsState<D>) -> &[AbstractValue<D>]
+    ensures values { result.now ≡ state.now.values }
+    ensures count { length state.now.values ≡ 75 }
 {
-    &state.registers
+    &state.values
 }
 
 impl<D: Domain> AbsState<D> {
@@ -243,7 +239,7 @@ impl<D: Domain> AbsState<D> {
             → IsMember D.Member Loose self.now s }
         ensures wider { CoversWider D.ops self.now other.now }
     {
-        let _registers = registers_of(self);
+        let _values = values_of(self);
         let _marks = self.marks.cells();
         covers_state(self, other)
     }

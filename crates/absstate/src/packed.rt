@@ -10,7 +10,7 @@ ghost use Rattle.absstate.specs.declared.abstract_state.AbstractValue.TheVariant
 
 use crate::abstract_state::{AbsState, AbstractValue, Anchor, REGISTERS, VALUES};
 use crate::chunk::{Chunk, push_chunks};
-use crate::covering::{covers_value, first_unlinked, proves_no_more, registers_of};
+use crate::covering::{covers_value, first_unlinked, proves_no_more, values_of};
 use crate::mark_words::{MarkWords, first_outside};
 use crate::part::Part;
 use interval::Domain;
@@ -144,7 +144,7 @@ impl<D: Domain> PackedState<D> {
 
     /// Returns the values of the registers and, after them, those of the groups.
     fn values(&self) -> [AbstractValue<D>; VALUES]
-        ensures { result ≡ self.now.registers }
+        ensures { result ≡ self.now.values }
     {
         let mut values = [AbstractValue::Nothing; VALUES];
         put(&mut values, 0, &self.registers);
@@ -167,7 +167,7 @@ impl<D: Domain> PackedState<D> {
         other_proved: i64,
     ) -> Option<(usize, AbstractValue<D>)>
         requires { REGISTERS ≤ length others.now }
-        ensures found { IfSome result (λ f. slice_index_or self.now.registers f.0 Nothing ≡ f.1) }
+        ensures found { IfSome result (λ f. slice_index_or self.now.values f.0 Nothing ≡ f.1) }
         ensures some { (b : AbsState D) → b.proved ≡ other_proved → IfSome result
             (λ f. covers_value D.ops self.now b f.1 (slice_index_or others.now f.0 Nothing) ≡ false) }
     {
@@ -192,7 +192,7 @@ impl<D: Domain> PackedState<D> {
             return Some(Part::Proved { proved });
         }
         let _marks = other.marks.cells();
-        let others = registers_of(other);
+        let others = values_of(other);
         if let Some((index, value)) = self.uncovered_register(others, other_proved) {
             return Some(Part::Value {
                 index,
@@ -238,7 +238,7 @@ impl<D: Copy> AbsState<D> {
     ) -> Result<PackedState<D>, AllocError>
         ensures { IfOk result (λ p. p ≡ self.now) }
     {
-        let (registers, groups) = registers_of(self).split_at(REGISTERS);
+        let (registers, groups) = values_of(self).split_at(REGISTERS);
         let _marks = self.marks.cells();
         let like = match like {
             Some(like) => like.chunks.as_slice(),

@@ -70,7 +70,7 @@ fn value_rules_out<D: Domain>(
     ensures { (a : AbsState D) → IsPartOf a (Part.Value index value proved) → result ≡ true
         → covers D.ops a other.now ≡ false }
 {
-    match other.registers.get(index) {
+    match other.values.get(index) {
         Some(known) => !covers_value(value, *known, proved, other.proved_of(Anchor::First)),
         None => false,
     }
@@ -81,7 +81,7 @@ fn link_rules_out<D: Domain>(first: usize, second: usize, other: &AbsState<D>) -
     ensures { (a : AbsState D) → IsPartOf a (Part.Linked first second) → result ≡ true
         → covers D.ops a other.now ≡ false }
 {
-    match (other.registers.get(first), other.registers.get(second)) {
+    match (other.values.get(first), other.values.get(second)) {
         (Some(known), Some(linked)) => !shared(*known, *linked),
         _ => false,
     }

@@ -6,7 +6,7 @@ ghost use Rattle.absstate.specs.MarkWords.{words_of};
 ghost use Rattle.absstate.specs.Signatures.{hashed_bit, number_bit, proved_bit, value_bit, value_bits, mark_bits, hashed_pair, value_hash, values_hash};
 
 use crate::abstract_state::{AbsState, AbstractValue, Anchor, REGISTERS};
-use crate::covering::registers_of;
+use crate::covering::values_of;
 use crate::links::{Links, links_of};
 use crate::margins::{Margins, margins_of};
 use crate::mark_words::MarkWords;
@@ -208,7 +208,7 @@ impl<D: Domain> AbsState<D> {
         requires { words.now ≡ words_of self.now.marks.cells }
         ensures { result ≡ state_signature D.ops self.now }
     {
-        let values = registers_of(self);
+        let values = values_of(self);
         let (registers, groups) = values.split_at(REGISTERS);
         StateSignature {
             registers: value_bits(0, self, registers),

@@ -129,15 +129,15 @@ fn proved_within(proved: i64, by: i64) -> i32
 
 /// Returns whether a number is left for an anchor.
 fn has_next_id<D: Copy>(state: &AbsState<D>) -> bool
-    ensures value { result ≡ int_le (pos (suc (greatest_id state.now.registers))) (pos 4294967295) }
-    ensures room { result ≡ true → greatest_id state.now.registers < 4294967295 }
+    ensures value { result ≡ int_le (pos (suc (greatest_id state.now.values))) (pos 4294967295) }
+    ensures room { result ≡ true → greatest_id state.now.values < 4294967295 }
 {
     state.greatest_id() < u32::MAX
 }
 
 /// Returns the anchor of a place that lies from `low` to `high`, of a sum with a place at another anchor.
 fn made_anchor<D: Copy>(state: &AbsState<D>, anchor: Anchor, low: i32, high: i32) -> Anchor
-    requires { greatest_id state.now.registers < 4294967295 }
+    requires { greatest_id state.now.values < 4294967295 }
     ensures { result ≡ made_anchor state.now anchor low high }
 {
     let id = state.greatest_id() + 1;

@@ -42,15 +42,15 @@ mapped f [] i d same = sym same
 mapped f (x ∷ xs) zero d same = refl
 mapped f (x ∷ xs) (suc i) d same = mapped f xs i d same
 
-pub helps : (a : AbsState Interval) (base : Reg) (displacement k e : ℤ) (n : ℕ) (anchor : Anchor) → abstract_at a.registers base ≡ Data anchor k → e ≡ (k +ℤ displacement +ℤ pos n) → (headroom_first -ℤ low_of anchor) ≤ℤ (k +ℤ displacement)
-    → e ≤ℤ pos 2147483647 → IsOk (access_region (with_least a anchor (Some e)) (abstract_at (with_least a anchor (Some e)).registers base) displacement n)
+pub helps : (a : AbsState Interval) (base : Reg) (displacement k e : ℤ) (n : ℕ) (anchor : Anchor) → abstract_at a.values base ≡ Data anchor k → e ≡ (k +ℤ displacement +ℤ pos n) → (headroom_first -ℤ low_of anchor) ≤ℤ (k +ℤ displacement)
+    → e ≤ℤ pos 2147483647 → IsOk (access_region (with_least a anchor (Some e)) (abstract_at (with_least a anchor (Some e)).values base) displacement n)
 unfolding access_region
 helps a base displacement k e n First here ends low few =
     subst (λ (v : AbstractValue Interval). IsOk (access_region (with_least a First (Some e)) v displacement n)) (sym here)
     (inside displacement k e n ends First (with_least a First (Some e)).proved low (length_enough a.proved e (int_lt a.proved e) refl))
 helps a base displacement k e n (Made id least greatest proved) here ends low few =
     let anchor : Anchor = Made id least greatest proved in
-    let value : abstract_at (with_least a anchor (Some e)).registers base ≡ Data (raised_anchor id e anchor) k = mapped (raised_value id e) a.registers (number_of base) Nothing refl ∙ ap (raised_value id e) here in
+    let value : abstract_at (with_least a anchor (Some e)).values base ≡ Data (raised_anchor id e anchor) k = mapped (raised_value id e) a.values (number_of base) Nothing refl ∙ ap (raised_value id e) here in
     let known : proved_of (with_least a anchor (Some e)) (raised_anchor id e anchor) ≡ proved_up_to proved e = ap (λ (b : Bool). if b then proved_up_to proved e else proved) (eq-eqb id id refl) in
     subst (λ (v : AbstractValue Interval). IsOk (access_region (with_least a anchor (Some e)) v displacement n)) (sym value)
     (inside displacement k e n ends anchor (proved_of (with_least a anchor (Some e)) (raised_anchor id e anchor)) low

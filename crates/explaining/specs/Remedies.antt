@@ -15,6 +15,6 @@ state_compared a place = with_least a place.anchor (Some place.offset)
 -- In that state the n bytes that a register reaches by a displacement may be accessed. A pointer may lie at the place, and some
 -- datagram reaches it.
 pub record IsRemedy (a : AbsState Interval) (base : Reg) (displacement : ℤ) (n : ℕ) (place : DatagramPlace) : Type 0 where
-  pub helps : IsOk (access_region (state_compared a place) (abstract_at (state_compared a place).registers base) displacement n)
+  pub helps : IsOk (access_region (state_compared a place) (abstract_at (state_compared a place).values base) displacement n)
   pub near : (high_of place.anchor +ℤ place.offset) ≤ℤ MAX_OFFSET
   pub short : (low_of place.anchor +ℤ place.offset) ≤ℤ pos MAX_DATAGRAM

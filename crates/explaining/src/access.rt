@@ -154,9 +154,9 @@ fn end_of(offset: i32, displacement: i16, bytes: u32) -> i64
 impl Access {
     /// Returns what is known of the register whose value points to the bytes.
     fn pointer(self, state: &State) -> AbstractValue<Interval>
-        ensures { result ≡ abstract_at state.now.registers self.base }
+        ensures { result ≡ abstract_at state.now.values self.base }
     {
-        state.registers[self.base.number() as usize]
+        state.values[self.base.number() as usize]
     }
 
     /// Returns the place of the first byte, from where the pointer counts its offset.
@@ -273,7 +273,7 @@ impl Access {
         let first = self.index(state);
         let group = first_pointer(state, first, first.saturating_add(self.bytes));
         let place = stack_place(GROUP_BYTES * group);
-        let known = Known(state.registers[REGISTERS + group]);
+        let known = Known(state.values[REGISTERS + group]);
         write!(note, ", stack{place} holds {known}")
     }
 }
@@ -295,7 +295,7 @@ fn first_pointer(state: &State, first: usize, end: usize) -> usize
     for group in 0..GROUPS {
         let from = GROUP_BYTES * group;
         let is_touched = from < end && first < from + GROUP_BYTES;
-        if is_touched && state.registers[REGISTERS + group] != AbstractValue::Nothing {
+        if is_touched && state.values[REGISTERS + group] != AbstractValue::Nothing {
             return group;
         }
     }

@@ -37,8 +37,8 @@ pub(crate) fn stack_place(index: usize) -> i64 {
 /// Appends the registers of which other things are known.
 fn push_registers(note: &mut String, from: &State, to: &State) -> Result<(), AllocError> {
     for i in 0..REGISTERS {
-        if from.registers[i] != to.registers[i] {
-            let known = Known(to.registers[i]);
+        if from.values[i] != to.values[i] {
+            let known = Known(to.values[i]);
             separate(note)?;
             write!(note, "r{i} {known}")?;
         }
@@ -49,8 +49,8 @@ fn push_registers(note: &mut String, from: &State, to: &State) -> Result<(), All
 /// Appends the groups of the stack that hold other pointers.
 fn push_groups(note: &mut String, from: &State, to: &State) -> Result<(), AllocError> {
     for i in 0..GROUPS {
-        if from.registers[REGISTERS + i] != to.registers[REGISTERS + i] {
-            let known = Known(to.registers[REGISTERS + i]);
+        if from.values[REGISTERS + i] != to.values[REGISTERS + i] {
+            let known = Known(to.values[REGISTERS + i]);
             let place = stack_place(GROUP_BYTES * i);
             separate(note)?;
             write!(note, "stack{place} holds {known}")?;
@@ -103,7 +103,7 @@ fn push_changes(note: &mut String, from: &State, to: &State) -> Result<(), Alloc
 /// Returns what is known in a state. That `r10` is the stack's end is known in every one.
 pub(crate) fn state_note(alloc: Global, state: &State) -> Result<String, AllocError> {
     let mut bare = AbsState::start();
-    bare.registers[1] = AbstractValue::Nothing;
+    bare.values[1] = AbstractValue::Nothing;
     let mut note = String::new(alloc);
     push_changes(&mut note, &bare, state)?;
     Ok(note)

@@ -35,7 +35,7 @@ fn register_of(operand: Operand) -> Option<Reg> {
 
 /// Returns what is known of a register.
 fn value_in(state: &State, reg: Reg) -> AbstractValue<Interval> {
-    state.registers[reg.number() as usize]
+    state.values[reg.number() as usize]
 }
 
 /// Returns what is known of an operand.

@@ -57,7 +57,7 @@ fn value_text(alloc: Global, value: AbstractValue<Interval>) -> Result<String, A
 /// Returns the text of the pointers that the groups of the stack hold.
 fn pointers_text(alloc: Global, state: &State) -> Result<String, AllocError> {
     let mut text = String::new(alloc);
-    for (i, value) in state.registers.iter().enumerate() {
+    for (i, value) in state.values.iter().enumerate() {
         if i < FIRST_GROUP || *value == AbstractValue::Nothing {
             continue;
         }
@@ -116,7 +116,7 @@ fn set_text(alloc: Global, state: &State) -> Result<String, AllocError> {
 fn register_of(state: &State, name: &str) -> Option<AbstractValue<Interval>> {
     let number = name.strip_prefix('r')?.parse::<usize>().ok()?;
     if number < FIRST_GROUP {
-        state.registers.get(number).copied()
+        state.values.get(number).copied()
     } else {
         None
     }

@@ -64,7 +64,7 @@ equal_of a b p q = omega (arith, ints)
 
 -- ---- the first pending state
 
-first_plain : (D : Type 0) → NameNoMadeAnchor (first_abstract_state {D = D}).registers
+first_plain : (D : Type 0) → NameNoMadeAnchor (first_abstract_state {D = D}).values
 first_plain D zero h = h
 first_plain D (suc zero) h = h
 first_plain D (suc (suc zero)) h = h
@@ -100,7 +100,7 @@ module _ {D : Type 0} (ops : Operations D) (Member : D → ℕ → Type 0) (soun
     not_negative = omega (arith, ints);
     floor = pos 0;
     proved = omega (arith, ints);
-    reach = equal_at_most (reach_of (first_abstract_state {D = D}).registers) (pos 0) (reach_of_plain (first_abstract_state {D = D}).registers (first_plain D));
+    reach = equal_at_most (reach_of (first_abstract_state {D = D}).values) (pos 0) (reach_of_plain (first_abstract_state {D = D}).values (first_plain D));
     over = λ n le.
         let member = first_member Member Strict (replicate n 0) (zeros_fit n) in
         record {
@@ -145,33 +145,33 @@ module _ {D : Type 0} (ops : Operations D) (Member : D → ℕ → Type 0) (soun
         let proved_is : b.proved ≡ p.state.proved = ap (λ (c : AbsState D). c.proved) (sym point.state_is) in
         let more : here.state.proved ≤ℤ p.state.proved = at_most here.state.proved b.proved p.state.proved rises (equal_at_most b.proved p.state.proved proved_is) in
         let higher : ℤ = greater_number reached.floor p.state.proved in
-        let floor : ℤ = greater_number higher (reach_of p.state.registers) in
-        let over_higher : higher ≤ℤ floor = greater_left higher (reach_of p.state.registers) in
+        let floor : ℤ = greater_number higher (reach_of p.state.values) in
+        let over_higher : higher ≤ℤ floor = greater_left higher (reach_of p.state.values) in
         let over_floor : reached.floor ≤ℤ floor = at_most reached.floor higher floor (greater_left reached.floor p.state.proved) over_higher in
         let over_proved : p.state.proved ≤ℤ floor = at_most p.state.proved higher floor (greater_right reached.floor p.state.proved) over_higher in
         record {
           not_negative = at_most (pos 0) here.state.proved p.state.proved reached.not_negative more;
           floor = floor;
           proved = over_proved;
-          reach = greater_right higher (reach_of p.state.registers);
+          reach = greater_right higher (reach_of p.state.values);
           over = λ m le.
               let enough : reached.floor ≤ℤ pos m = at_most reached.floor floor (pos m) over_floor le in
               let over = reached.over m enough in
               let begins_at : fetch code over.loosened.slot ≡ Begins i = ap (fetch code) over.slot ∙ begins in
               let long : b.proved ≤ℤ pos over.loosened.memory.length =
               at_most b.proved p.state.proved (pos over.loosened.memory.length) (equal_at_most b.proved p.state.proved proved_is) (subst (λ (k : ℕ). p.state.proved ≤ℤ pos k) (sym over.size) (at_most p.state.proved floor (pos m) over_proved le)) in
-              let reaches : reach_of here.state.registers ≤ℤ pos over.loosened.memory.length = subst (λ (k : ℕ). reach_of here.state.registers ≤ℤ pos k) (sym over.size) (at_most (reach_of here.state.registers) reached.floor (pos m) reached.reach enough) in
+              let reaches : reach_of here.state.values ≤ℤ pos over.loosened.memory.length = subst (λ (k : ℕ). reach_of here.state.values ≤ℤ pos k) (sym over.size) (at_most (reach_of here.state.values) reached.floor (pos m) reached.reach enough) in
               reached_by code here p b m over point.state_is
               (step_opens ops Member sound some_environment code over.member.places here.state over.loosened over.member.at i fit precise environment_is_possible begins_at answer is branch b p.slot after
               (ap (λ (k : ℕ). branch_slot code k i branch) over.slot ∙ point.leads) long reaches);
           plain = λ sums.
               let before = reached.plain sums in
-              let plain_b : NameNoMadeAnchor b.registers = step_plain ops Member sound precise here.state before.0 i fit (sums here.slot i begins) answer is branch b after in
-              let plain : NameNoMadeAnchor p.state.registers = subst (λ (c : AbsState D). NameNoMadeAnchor c.registers) (sym point.state_is) plain_b in
-              let none : reach_of p.state.registers ≡ pos 0 = reach_of_plain p.state.registers plain in
+              let plain_b : NameNoMadeAnchor b.values = step_plain ops Member sound precise here.state before.0 i fit (sums here.slot i begins) answer is branch b after in
+              let plain : NameNoMadeAnchor p.state.values = subst (λ (c : AbsState D). NameNoMadeAnchor c.values) (sym point.state_is) plain_b in
+              let none : reach_of p.state.values ≡ pos 0 = reach_of_plain p.state.values plain in
               let low : reached.floor ≤ℤ p.state.proved = at_most reached.floor here.state.proved p.state.proved before.1 more in
               let higher_is : higher ≤ℤ p.state.proved = greater_least reached.floor p.state.proved p.state.proved low (equal_at_most p.state.proved p.state.proved refl) in
-              (plain, greater_least higher (reach_of p.state.registers) p.state.proved higher_is (at_most (reach_of p.state.registers) (pos 0) p.state.proved (equal_at_most (reach_of p.state.registers) (pos 0) none) (at_most (pos 0) here.state.proved p.state.proved reached.not_negative more)));
+              (plain, greater_least higher (reach_of p.state.values) p.state.proved higher_is (at_most (reach_of p.state.values) (pos 0) p.state.proved (equal_at_most (reach_of p.state.values) (pos 0) none) (at_most (pos 0) here.state.proved p.state.proved reached.not_negative more)));
         }
 
     next_reached : (state : Option (AbsState D)) → state_after answer NotTaken ≡ state → (on : Option (Pending D)) → IsNext code here.slot i NotTaken state on → IfSome on (IsReached Member code)
@@ -198,7 +198,7 @@ module _ {D : Type 0} (ops : Operations D) (Member : D → ℕ → Type 0) (soun
       let same : pos n ≡ reached.floor = abs_is reached.floor positive in
       let r = reached.over n (equal_at_most reached.floor (pos n) (sym same)) in
       let sums : IsAboutPlaces reason refusal.insn → HasNoSums code = claimed refusal.insn refusal.begins in
-      let plain : IsAboutPlaces reason refusal.insn → NameNoMadeAnchor here.state.registers = λ about. (reached.plain (sums about)).0 in
+      let plain : IsAboutPlaces reason refusal.insn → NameNoMadeAnchor here.state.values = λ about. (reached.plain (sums about)).0 in
       let size : reason ≡ DatagramBounds → pos r.loosened.memory.length ≡ here.state.proved =
       λ e. ap (λ (k : ℕ). pos k) r.size ∙ same ∙ equal_of reached.floor here.state.proved (reached.plain (sums (subst (λ (x : Reason). IsAboutPlaces x refusal.insn) (sym e) tt))).1 reached.proved in
       let f = refusing.refusal_is_real ops Member sound precise r.member.places here.state r.loosened r.member.at refusal.insn refusal.fits reason refusal.step_is plain size in

@@ -57,9 +57,9 @@ pub record IsReached {D : Type 0} (Member : D → ℕ → Type 0) (code : List I
   pub not_negative : pos 0 ≤ℤ p.state.proved
   pub floor : ℤ
   pub proved : p.state.proved ≤ℤ floor
-  pub reach : reach_of p.state.registers ≤ℤ floor
+  pub reach : reach_of p.state.values ≤ℤ floor
   pub over : (n : ℕ) → floor ≤ℤ pos n → IsReachedOver Member code p n
-  pub plain : HasNoSums code → NameNoMadeAnchor p.state.registers × (floor ≤ℤ p.state.proved)
+  pub plain : HasNoSums code → NameNoMadeAnchor p.state.values × (floor ≤ℤ p.state.proved)
 
 -- ---- path prefixes
 

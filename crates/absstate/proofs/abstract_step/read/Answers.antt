@@ -6,5 +6,5 @@ use Rattle.absstate.proofs.abstract_step.read.Goals as goal
 
 pub returns-in-Nothing : goal.returns-in-Nothing
 returns-in-Nothing g c =
-    let holds : abstract_at c.args.state.now.registers c.args.reg ≡ Nothing = search rules in
+    let holds : abstract_at c.args.state.now.values c.args.reg ≡ Nothing = search rules in
     sym (ap abstract_content holds)

@@ -10,7 +10,7 @@ use Rattle.absstate.proofs.part.value_rules_out.Goals as goal
 
 pub returns-in-Some : goal.returns-in-Some
 returns-in-Some g c = λ a is out. ruled_out _ c.covers_value.result (λ covered.
-    let at = values_at g.D.Domain.ops a c.args.other.now a.registers c.args.other.now.registers c.args.index (values_of g.D.Domain.ops a c.args.other.now covered) in
-    let inside : c.args.index < length c.args.other.now.registers = ltb-true c.args.index (length c.args.other.now.registers) (sym c.in-Some.ensures.lookup.0) in
+    let at = values_at g.D.Domain.ops a c.args.other.now a.values c.args.other.now.values c.args.index (values_of g.D.Domain.ops a c.args.other.now covered) in
+    let inside : c.args.index < length c.args.other.now.values = ltb-true c.args.index (length c.args.other.now.values) (sym c.in-Some.ensures.lookup.0) in
     c.covers_value.ensures a c.args.other.now (search (rules, is.1)) (search rules) ∙ ap (λ (v : AbstractValue g.row.D.Denot). covers_value g.D.Domain.ops a c.args.other.now v c.in-Some.known.now) (sym is.0)
-    ∙ ap (λ (v : AbstractValue g.row.D.Denot). covers_value g.D.Domain.ops a c.args.other.now (slice_index_or a.registers c.args.index Nothing) v) (c.in-Some.ensures.lookup.1 ∙ same_item c.args.index c.args.other.now.registers c.in-Some.known.now Nothing inside) ∙ at) (not-true _ out)
+    ∙ ap (λ (v : AbstractValue g.row.D.Denot). covers_value g.D.Domain.ops a c.args.other.now (slice_index_or a.values c.args.index Nothing) v) (c.in-Some.ensures.lookup.1 ∙ same_item c.args.index c.args.other.now.values c.in-Some.known.now Nothing inside) ∙ at) (not-true _ out)

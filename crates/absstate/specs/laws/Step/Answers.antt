@@ -149,7 +149,7 @@ module _ {D : Type 0} (ops : Operations D) where
   held_reasons k = tt
 
   operand_reasons : (w : Width) (a : AbsState D) (o : Operand) → IfErr (abstract.operand_abstract ops w a o) IsStepReason
-  operand_reasons w a (operand.Reg r) = held_reasons (abstract_at a.registers r)
+  operand_reasons w a (operand.Reg r) = held_reasons (abstract_at a.values r)
   operand_reasons w a (operand.Imm n) = tt
 
   moved_reasons : (kind : ℤ → AbstractValue D) (option : Option ℤ) → IfErr (abstract.abstract_pointer_to kind option) IsStepReason
@@ -264,7 +264,7 @@ module _ {D : Type 0} (ops : Operations D) where
 
   store_reasons : (a : AbsState D) (z : Size) (base : Reg) (o : Operand) (d : ℤ) → IfErr (abstract.store_step ops a z base o d) IsStepReason
   store_reasons a z base o d =
-      faults IsStepReason (abstract.abstract_register_value a base) _ (held_reasons (abstract_at a.registers base)) (λ to. faults IsStepReason (abstract.operand_abstract ops W64 a o) _ (operand_reasons W64 a o)
+      faults IsStepReason (abstract.abstract_register_value a base) _ (held_reasons (abstract_at a.values base)) (λ to. faults IsStepReason (abstract.operand_abstract ops W64 a o) _ (operand_reasons W64 a o)
       (λ known. faults IsStepReason (abstract.abstract_pointer to) _ (pointer_reasons to) (λ u. stored_reasons a to d z known)))
 
   context_value_reasons : (r : Reg) (x : AbstractValue D) → IfErr (abstract.abstract_context_value r x) IsStepReason
@@ -272,17 +272,17 @@ module _ {D : Type 0} (ops : Operations D) where
   context_value_reasons r x = tt
 
   context_reasons : (a : AbsState D) (r : Reg) → IfErr (abstract.abstract_context_argument a r) IsStepReason
-  context_reasons a r = faults IsStepReason (abstract.abstract_register_value a r) _ (held_reasons (abstract_at a.registers r)) (context_value_reasons r)
+  context_reasons a r = faults IsStepReason (abstract.abstract_register_value a r) _ (held_reasons (abstract_at a.values r)) (context_value_reasons r)
 
   number_value_reasons : (r : Reg) (x : AbstractValue D) → IfErr (abstract.abstract_number_value r x) IsStepReason
   number_value_reasons r (known.Scalar n) = tt
   number_value_reasons r x = tt
 
   argument_reasons : (a : AbsState D) (r : Reg) → IfErr (abstract.abstract_number_argument a r) IsStepReason
-  argument_reasons a r = faults IsStepReason (abstract.abstract_register_value a r) _ (held_reasons (abstract_at a.registers r)) (number_value_reasons r)
+  argument_reasons a r = faults IsStepReason (abstract.abstract_register_value a r) _ (held_reasons (abstract_at a.values r)) (number_value_reasons r)
 
   pointer_argument_reasons : (a : AbsState D) (n : ℕ) (r : Reg) → IfErr (abstract.abstract_stack_argument a n r) IsStepReason
-  pointer_argument_reasons a n r = faults IsStepReason (abstract.abstract_register_value a r) _ (held_reasons (abstract_at a.registers r)) (λ x. found (abstract.abstract_stack_index n x) (reasons.HelperArgument (number_of r)) tt)
+  pointer_argument_reasons a n r = faults IsStepReason (abstract.abstract_register_value a r) _ (held_reasons (abstract_at a.values r)) (λ x. found (abstract.abstract_stack_index n x) (reasons.HelperArgument (number_of r)) tt)
 
   record_argument_reasons : (a : AbsState D) (form : RecordForm) (r : Reg) → IfErr (abstract.abstract_record_argument a form r) IsStepReason
   record_argument_reasons a form r = faults IsStepReason (abstract.abstract_stack_argument a (record_bytes form) r) _ (pointer_argument_reasons a (record_bytes form) r) (λ i. cells_reasons a (record_bytes form) i)
@@ -319,12 +319,12 @@ module _ {D : Type 0} (ops : Operations D) where
   one_step_reasons a w op dst o = faults IsStepReason (abstract.operand_abstract ops w a o) _ (operand_reasons w a o) (λ x. written_reasons a dst (abstract.abstract_unary_result ops op x) (unary_reasons op x))
 
   load_step_reasons : (a : AbsState D) (loaded : AbstractValue D → Result (AbstractValue D) Reason) (dst base : Reg) → ((x : AbstractValue D) → IfErr (loaded x) IsStepReason) → IfErr (abstract.loaded_step a loaded dst base) IsStepReason
-  load_step_reasons a loaded dst base h = faults IsStepReason (abstract.abstract_register_value a base) _ (held_reasons (abstract_at a.registers base)) (λ x. written_reasons a dst (loaded x) (h x))
+  load_step_reasons a loaded dst base h = faults IsStepReason (abstract.abstract_register_value a base) _ (held_reasons (abstract_at a.values base)) (λ x. written_reasons a dst (loaded x) (h x))
 
   -- a refused step has one of the reasons of steps
   pub step_reasons : (a : AbsState D) (i : Insn) → IfErr (abstract.abstract_step ops a i) IsStepReason
   step_reasons a (insn.Alu w op dst o) =
-      faults IsStepReason (abstract.abstract_register_value a dst) _ (held_reasons (abstract_at a.registers dst)) (λ x. faults IsStepReason (abstract.operand_abstract ops w a o) _ (operand_reasons w a o)
+      faults IsStepReason (abstract.abstract_register_value a dst) _ (held_reasons (abstract_at a.values dst)) (λ x. faults IsStepReason (abstract.operand_abstract ops w a o) _ (operand_reasons w a o)
       (λ y. written_reasons a dst (abstract.abstract_alu_result ops a op w x y) (alu_reasons a op w x y)))
   step_reasons a (insn.Mov w dst o) = one_step_reasons a w (Mov w) dst o
   step_reasons a (insn.Neg w dst) = one_step_reasons a w (Neg w) dst (operand.Reg dst)
@@ -333,11 +333,11 @@ module _ {D : Type 0} (ops : Operations D) where
   step_reasons a (insn.Jump offset) = tt
   step_reasons a (insn.LongJump offset) = tt
   step_reasons a (insn.JumpIf w c dst o offset) =
-      faults IsStepReason (abstract.abstract_register_value a dst) _ (held_reasons (abstract_at a.registers dst)) (λ x. faults IsStepReason (abstract.operand_abstract ops w a o) _ (operand_reasons w a o)
+      faults IsStepReason (abstract.abstract_register_value a dst) _ (held_reasons (abstract_at a.values dst)) (λ x. faults IsStepReason (abstract.operand_abstract ops w a o) _ (operand_reasons w a o)
       (λ y. fork_reasons a w c dst o x y))
   step_reasons a (insn.Load z dst base d) = load_step_reasons a (λ pointer. abstract.abstract_load ops a pointer d z) dst base (λ x. load_reasons a x d z)
   step_reasons a (insn.LoadSigned z dst base d) = load_step_reasons a (λ pointer. abstract.abstract_load_signed ops a pointer d z) dst base (λ x. number_reasons a x d (byte_count (unsigned_size z)) ops.top)
   step_reasons a (insn.Store z base o d) = store_reasons a z base o d
   step_reasons a (insn.LoadImm dst value) = written_reasons a dst (Ok (known.Scalar (ops.exact value))) tt
   step_reasons a (insn.Call n) = faults IsStepReason (ok_or (helper_of n) reasons.UnknownHelper) _ (found (helper_of n) reasons.UnknownHelper tt) (λ h. helper_reasons a h)
-  step_reasons a insn.Exit = faults IsStepReason (abstract.abstract_register_value a reg.R0) _ (held_reasons (abstract_at a.registers reg.R0)) exit_reasons
+  step_reasons a insn.Exit = faults IsStepReason (abstract.abstract_register_value a reg.R0) _ (held_reasons (abstract_at a.values reg.R0)) exit_reasons

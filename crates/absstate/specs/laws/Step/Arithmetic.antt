@@ -88,7 +88,7 @@ module _ {D : Type 0} (ops : Operations D) (Member : D → ℕ → Type 0) (soun
 
   module _ (claimed : Reason → Type 0) (mode : Mode) (places : Places) (uninit : claimed UninitRegister → mode ≡ Strict) where
     pub read_agrees : (a : AbsState D) (s : State) → IsMemberAt Member mode places a s → (r : Reg) → Agree claimed (IsHeld Member places s.memory.length) (abstract.abstract_register_value a r) (effects.register_value s.registers r)
-    read_agrees a s member r = held_agrees claimed mode places s.memory.length uninit (abstract_at a.registers r) (value_at s.registers r) (member.registers r)
+    read_agrees a s member r = held_agrees claimed mode places s.memory.length uninit (abstract_at a.values r) (value_at s.registers r) (member.registers r)
 
     pub operand_agrees : (a : AbsState D) (s : State) → IsMemberAt Member mode places a s → (w : Width) (operand : Operand) → OperandFits operand → Agree claimed (IsHeld Member places s.memory.length) (abstract.operand_abstract ops w a operand) (effects.operand_value w s.registers operand)
     operand_agrees a s member w (operand.Reg r) fit = read_agrees a s member r
@@ -120,11 +120,11 @@ module _ {D : Type 0} (ops : Operations D) (Member : D → ℕ → Type 0) (soun
   -- a value that is held, with the anchors at places at which those that registers name stay
   pub record IsHeldAnew (places : Places) (size : ℕ) (a : AbsState D) (y : AbstractValue D) (v : Value) : Type 0 where
     pub more : Places
-    pub extends : Extends (greatest_id a.registers) places more
+    pub extends : Extends (greatest_id a.values) places more
     pub held : IsHeld Member more size y v
 
   pub held_before : (places : Places) (size : ℕ) (a : AbsState D) (y : AbstractValue D) (v : Value) → IsHeld Member places size y v → IsHeldAnew places size a y v
-  held_before places size a y v h = record { more = places; extends = extends_itself (greatest_id a.registers) places; held = h }
+  held_before places size a y v h = record { more = places; extends = extends_itself (greatest_id a.values) places; held = h }
 
   module _ (claimed : Reason → Type 0) (places : Places) (size : ℕ) (a : AbsState D) (reaches : a.proved ≤ℤ pos size) where
     stack_moved : (o : Option ℤ) → Agree claimed (IsHeldAnew places size a) (abstract.abstract_pointer_to known.Stack o) (effects.pointer_to value.Stack o)
@@ -195,5 +195,5 @@ module _ {D : Type 0} (ops : Operations D) (Member : D → ℕ → Type 0) (soun
     pub registers : claimed UninitRegister → mode ≡ Strict
     pub cells : claimed UninitStack → mode ≡ Strict
     pub bounds : claimed DatagramBounds → pos s.memory.length ≡ a.proved
-    pub plain : claimed DatagramBounds → (r : Reg) → IsMade (abstract_at a.registers r) → ⊥
+    pub plain : claimed DatagramBounds → (r : Reg) → IsMade (abstract_at a.values r) → ⊥
     pub arithmetic : claimed PointerArithmetic → Strays a s i

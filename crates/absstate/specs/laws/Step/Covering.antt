@@ -168,14 +168,14 @@ loose_only x y e = absurd cc
 -- ---- states
 
 -- members of the covered state are members of the one that covers it
-pub member_covered : {D : Type 0} (ops : Operations D) (Member : D → ℕ → Type 0) → AreSound ops Member → (a b : AbsState D) (s : State) → length a.registers ≡ 75 → length a.marks.cells ≡ 512 → covers ops a b ≡ true → IsMember Member Loose b s → IsMember Member Loose a s
+pub member_covered : {D : Type 0} (ops : Operations D) (Member : D → ℕ → Type 0) → AreSound ops Member → (a b : AbsState D) (s : State) → length a.values ≡ 75 → length a.marks.cells ≡ 512 → covers ops a b ≡ true → IsMember Member Loose b s → IsMember Member Loose a s
 member_covered ops Member sound a b s count marks_count e member =
-    let values = first_of_and (covers_values ops a b a.registers b.registers && share_alike a.registers b.registers) (int_le a.proved b.proved && covers_marks a.marks.cells b.marks.cells) e in
-    let others = rest_of_and (covers_values ops a b a.registers b.registers && share_alike a.registers b.registers) (int_le a.proved b.proved && covers_marks a.marks.cells b.marks.cells) e in
+    let values = first_of_and (covers_values ops a b a.values b.values && share_alike a.values b.values) (int_le a.proved b.proved && covers_marks a.marks.cells b.marks.cells) e in
+    let others = rest_of_and (covers_values ops a b a.values b.values && share_alike a.values b.values) (int_le a.proved b.proved && covers_marks a.marks.cells b.marks.cells) e in
     let less = le_of a.proved b.proved (first_of_and (int_le a.proved b.proved) (covers_marks a.marks.cells b.marks.cells) others) in
     let marks = rest_of_and (int_le a.proved b.proved) (covers_marks a.marks.cells b.marks.cells) others in
     let m = member.at in
-    let more : Places = places_for member.places a.registers b.registers in
+    let more : Places = places_for member.places a.values b.values in
     record {
       places = more;
       at = record {
@@ -184,19 +184,19 @@ member_covered ops Member sound a b s count marks_count e member =
         marks_count = marks_count;
         registers = λ r.
             let n : ℕ = number_of r in
-            let lt : n < length a.registers = omega (arith, count, in_eleven r) in
-            let lt' : n < length b.registers = omega (arith, m.known_count, in_eleven r) in
-            value_covered ops Member sound member.places more s.memory.length a b m.reaches (abstract_at a.registers r) (abstract_at b.registers r) (value_at s.registers r)
-            (values_at ops a b a.registers b.registers n (first_of_and (covers_values ops a b a.registers b.registers) (share_alike a.registers b.registers) values))
-            (λ id f. place_stands member.places id a.registers b.registers n (rest_of_and (covers_values ops a b a.registers b.registers) (share_alike a.registers b.registers) values) lt lt' f)
+            let lt : n < length a.values = omega (arith, count, in_eleven r) in
+            let lt' : n < length b.values = omega (arith, m.known_count, in_eleven r) in
+            value_covered ops Member sound member.places more s.memory.length a b m.reaches (abstract_at a.values r) (abstract_at b.values r) (value_at s.registers r)
+            (values_at ops a b a.values b.values n (first_of_and (covers_values ops a b a.values b.values) (share_alike a.values b.values) values))
+            (λ id f. place_stands member.places id a.values b.values n (rest_of_and (covers_values ops a b a.values b.values) (share_alike a.values b.values) values) lt lt' f)
             (m.registers r);
         groups = λ g below.
             let n : ℕ = group_index g in
-            let lt : n < length a.registers = omega (arith, count, below) in
-            let lt' : n < length b.registers = omega (arith, m.known_count, below) in
-            value_covered ops Member sound member.places more s.memory.length a b m.reaches (group_at a.registers g) (group_at b.registers g) (pointer_in s.memory.stack.groups g)
-            (values_at ops a b a.registers b.registers n (first_of_and (covers_values ops a b a.registers b.registers) (share_alike a.registers b.registers) values))
-            (λ id f. place_stands member.places id a.registers b.registers n (rest_of_and (covers_values ops a b a.registers b.registers) (share_alike a.registers b.registers) values) lt lt' f)
+            let lt : n < length a.values = omega (arith, count, below) in
+            let lt' : n < length b.values = omega (arith, m.known_count, below) in
+            value_covered ops Member sound member.places more s.memory.length a b m.reaches (group_at a.values g) (group_at b.values g) (pointer_in s.memory.stack.groups g)
+            (values_at ops a b a.values b.values n (first_of_and (covers_values ops a b a.values b.values) (share_alike a.values b.values) values))
+            (λ id f. place_stands member.places id a.values b.values n (rest_of_and (covers_values ops a b a.values b.values) (share_alike a.values b.values) values) lt lt' f)
             (m.groups g below);
         cells = λ i lt. record { held = λ f. (m.cells i lt).held (marks_at a.marks.cells b.marks.cells i marks f); no_other = λ f. loose_only (is_some (slice_index_or s.memory.stack.cells i None)) (is_marked a.marks i) f };
         tagged = m.tagged;

@@ -164,7 +164,7 @@ module _ {D : Type 0} (ops : Operations D) (Member : D → ℕ → Type 0) (soun
     pub after_is : state_after (next.Fork not_taken taken) branch ≡ Some after
     pub member : (to : ℕ) → IsMemberAt Member mode places after (record s { slot = to })
     pub extra : ℤ
-    pub within : extra ≤ℤ reach_of a.registers
+    pub within : extra ≤ℤ reach_of a.values
     pub rises : (way : Branch) (b : AbsState D) → state_after (next.Fork not_taken taken) way ≡ Some b → a.proved ≤ℤ b.proved
     pub holds_of : (way : Branch) (b : AbsState D) → state_after (next.Fork not_taken taken) way ≡ Some b → b.proved ≤ℤ pos s.memory.length → extra ≤ℤ pos s.memory.length → HoldsOf (bound_of condition (value_at s.registers dst) second way) s.memory.length
     pub opens : ArePrecise ops Member → mode ≡ Strict → (way : Branch) (b : AbsState D) → state_after (next.Fork not_taken taken) way ≡ Some b → b.proved ≤ℤ pos s.memory.length → extra ≤ℤ pos s.memory.length → (to : ℕ) → IsOpened Member places b s to
@@ -207,7 +207,7 @@ module _ {D : Type 0} (ops : Operations D) (Member : D → ℕ → Type 0) (soun
             after_is = way_is ∙ after.1;
             member = after.2;
             extra = pos 0;
-            within = reach_positive a.registers;
+            within = reach_positive a.values;
             rises = rises;
             holds_of = λ way b f le le'. subst (λ (v : Value). HoldsOf (bound_of c v (value.Scalar n) way) s.memory.length) (sym dst_is) tt;
             opens = opens;
@@ -225,7 +225,7 @@ module _ {D : Type 0} (ops : Operations D) (Member : D → ℕ → Type 0) (soun
       fork_by false e = numbers_fork (Fails c) NotTaken effect.Pass refl (ap not e) refl
 
     -- a place and the end
-    module _ (anchor : Anchor) (bound : Branch → Option Bound) (extra : ℤ) (within : extra ≤ℤ reach_of a.registers)
+    module _ (anchor : Anchor) (bound : Branch → Option Bound) (extra : ℤ) (within : extra ≤ℤ reach_of a.values)
         (enough : (way : Branch) → (with_least a anchor (abstract.least_of (bound way))).proved ≤ℤ pos s.memory.length → extra ≤ℤ pos s.memory.length → IsLeast (place_of places anchor) (abstract.least_of (bound way)) s.memory.length)
         (second : Value) (o_is : effects.operand_value w s.registers o ≡ Ok second) (bound_is : (way : Branch) → bound_of c (value_at s.registers dst) second way ≡ bound_on_places (place_of places anchor) (bound way)) where
       way_is : (way : Branch) → state_after (next.Fork (Some (with_least a anchor (abstract.implied_by bound).not_taken)) (Some (with_least a anchor (abstract.implied_by bound).taken))) way ≡ Some (with_least a anchor (abstract.least_of (bound way)))

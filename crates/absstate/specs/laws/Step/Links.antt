@@ -153,9 +153,9 @@ uncovered ops a b (Data x k) (Data y l) e f = absurd cc
 uncovered ops a b w v e f = absurd cc
 
 -- two places at one anchor of a state that covers another stand for two places of the other at one anchor
-pub linked_alike : {D : Type 0} (ops : Operations D) (a b : AbsState D) → covers ops a b ≡ true → (h i : ℕ) → h < i → shared a.registers h i ≡ true → shared b.registers h i ≡ true
-linked_alike ops a b e h i less both = elim (cases_lt i (length b.registers)) [
-  | inl lt ↦ linked_at h i a.registers b.registers (shares_of ops a b e) less lt both
-  | inr past ↦ absurd (uncovered ops a b (slice_index_or a.registers h Nothing) (slice_index_or a.registers i Nothing) both
-      (ap (covers_value ops a b (slice_index_or a.registers i Nothing)) (sym (get_or_past b.registers i Nothing past)) ∙ values_at ops a b a.registers b.registers i (values_of ops a b e)))
+pub linked_alike : {D : Type 0} (ops : Operations D) (a b : AbsState D) → covers ops a b ≡ true → (h i : ℕ) → h < i → shared a.values h i ≡ true → shared b.values h i ≡ true
+linked_alike ops a b e h i less both = elim (cases_lt i (length b.values)) [
+  | inl lt ↦ linked_at h i a.values b.values (shares_of ops a b e) less lt both
+  | inr past ↦ absurd (uncovered ops a b (slice_index_or a.values h Nothing) (slice_index_or a.values i Nothing) both
+      (ap (covers_value ops a b (slice_index_or a.values i Nothing)) (sym (get_or_past b.values i Nothing past)) ∙ values_at ops a b a.values b.values i (values_of ops a b e)))
 ]

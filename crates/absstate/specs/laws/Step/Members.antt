@@ -98,29 +98,29 @@ set_cell : {mode : Mode} {b : Bool} {c : Option ℕ} → b ≡ true → is_some 
 set_cell h q = record { held = λ e. q; no_other = λ e. q ∙ sym h }
 
 module _ {D : Type 0} (Member : D → ℕ → Type 0) (mode : Mode) (places : Places) (a : AbsState D) (s : State) (member : IsMemberAt Member mode places a s) where
-  register_at : (r reg : Reg) (k : AbstractValue D) (v : Value) → IsValue Member mode places s.memory.length k v → IsValue Member mode places s.memory.length (abstract_at (slice_set a.registers (number_of r) k) reg) (value_at (slice_set s.registers (number_of r) v) reg)
+  register_at : (r reg : Reg) (k : AbstractValue D) (v : Value) → IsValue Member mode places s.memory.length k v → IsValue Member mode places s.memory.length (abstract_at (slice_set a.values (number_of r) k) reg) (value_at (slice_set s.registers (number_of r) v) reg)
   register_at r reg k v is =
       elim (cases_eq (number_of reg) (number_of r)) [
         | inl same ↦
-            let known_is : abstract_at (slice_set a.registers (number_of r) k) reg ≡ k = get_or-set_at a.registers (number_of r) (number_of reg) k known.Nothing same (omega (arith, in_eleven r, member.known_count)) in
+            let known_is : abstract_at (slice_set a.values (number_of r) k) reg ≡ k = get_or-set_at a.values (number_of r) (number_of reg) k known.Nothing same (omega (arith, in_eleven r, member.known_count)) in
             let value_is : value_at (slice_set s.registers (number_of r) v) reg ≡ v = get_or-set_at s.registers (number_of r) (number_of reg) v value.Nothing same (omega (arith, in_eleven r, member.tagged.count)) in
             subst (λ (l : AbstractValue D). IsValue Member mode places s.memory.length l (value_at (slice_set s.registers (number_of r) v) reg)) (sym known_is) (subst (IsValue Member mode places s.memory.length k) (sym value_is) is)
         | inr other ↦
-            let known_is : abstract_at (slice_set a.registers (number_of r) k) reg ≡ abstract_at a.registers reg = get_or-set_other a.registers (number_of r) (number_of reg) k known.Nothing other in
+            let known_is : abstract_at (slice_set a.values (number_of r) k) reg ≡ abstract_at a.values reg = get_or-set_other a.values (number_of r) (number_of reg) k known.Nothing other in
             let value_is : value_at (slice_set s.registers (number_of r) v) reg ≡ value_at s.registers reg = get_or-set_other s.registers (number_of r) (number_of reg) v value.Nothing other in
             subst (λ (l : AbstractValue D). IsValue Member mode places s.memory.length l (value_at (slice_set s.registers (number_of r) v) reg)) (sym known_is)
-            (subst (IsValue Member mode places s.memory.length (abstract_at a.registers reg)) (sym value_is) (member.registers reg))
+            (subst (IsValue Member mode places s.memory.length (abstract_at a.values reg)) (sym value_is) (member.registers reg))
       ]
 
   -- the groups are as before where a register is written
-  group_kept : (r : Reg) (k : AbstractValue D) (g : ℕ) → group_at (slice_set a.registers (number_of r) k) g ≡ group_at a.registers g
-  group_kept r k g = get_or-set_other a.registers (number_of r) (group_index g) k known.Nothing (λ e. omega (arith, in_eleven r, e))
+  group_kept : (r : Reg) (k : AbstractValue D) (g : ℕ) → group_at (slice_set a.values (number_of r) k) g ≡ group_at a.values g
+  group_kept r k g = get_or-set_other a.values (number_of r) (group_index g) k known.Nothing (λ e. omega (arith, in_eleven r, e))
 
   -- a register is written
   pub member_put : (r : Reg) (k : AbstractValue D) (v : Value) (n : ℕ) → IsValue Member mode places s.memory.length k v → IsProper v → IsMemberAt Member mode places (with_value a r k) (record s { slot = n; registers = registers_with s r v })
   member_put r k v n is proper = record {
     reaches = member.reaches;
-    known_count = length-set a.registers (number_of r) k ∙ member.known_count;
+    known_count = length-set a.values (number_of r) k ∙ member.known_count;
     marks_count = member.marks_count;
     registers = λ q. register_at r q k v is;
     groups = λ g lt. subst (λ (l : AbstractValue D). IsValue Member mode places s.memory.length l (pointer_in s.memory.stack.groups g)) (sym (group_kept r k g)) (member.groups g lt);
@@ -142,13 +142,13 @@ module _ {D : Type 0} (Member : D → ℕ → Type 0) (mode : Mode) (places : Pl
       (member_written r k (value_at s.registers r) n held (register_proper s r member.tagged))
 
   -- memory is replaced by another one of the same length, and the marks by those of its cells
-  with_new_memory : (registers : List (AbstractValue D)) (marks : Marks) (memory : Memory) (n : ℕ) (p : Plan) → length registers ≡ 75 → ((r : Reg) → abstract_at registers r ≡ abstract_at a.registers r) → length marks.cells ≡ STACK_BYTES → memory.length ≡ s.memory.length → IsMemory memory → ((i : ℕ) → i < 512 → IsMarkedCell mode (is_marked marks i) (slice_index_or memory.stack.cells i None))
-      → ((g : ℕ) → g < GROUPS → IsValue Member mode places s.memory.length (group_at registers g) (pointer_in memory.stack.groups g)) → IsMemberAt Member mode places (record a { registers = registers; marks = marks }) (record s { slot = n; memory = memory; plan = p })
+  with_new_memory : (registers : List (AbstractValue D)) (marks : Marks) (memory : Memory) (n : ℕ) (p : Plan) → length registers ≡ 75 → ((r : Reg) → abstract_at registers r ≡ abstract_at a.values r) → length marks.cells ≡ STACK_BYTES → memory.length ≡ s.memory.length → IsMemory memory → ((i : ℕ) → i < 512 → IsMarkedCell mode (is_marked marks i) (slice_index_or memory.stack.cells i None))
+      → ((g : ℕ) → g < GROUPS → IsValue Member mode places s.memory.length (group_at registers g) (pointer_in memory.stack.groups g)) → IsMemberAt Member mode places (record a { values = registers; marks = marks }) (record s { slot = n; memory = memory; plan = p })
   with_new_memory registers marks memory n p known same count size is cells groups = record {
     reaches = subst (λ (j : ℕ). a.proved ≤ℤ pos j) (sym size) member.reaches;
     known_count = known;
     marks_count = count;
-    registers = λ r. subst (λ (l : AbstractValue D). IsValue Member mode places memory.length l (value_at s.registers r)) (sym (same r)) (subst (λ (j : ℕ). IsValue Member mode places j (abstract_at a.registers r) (value_at s.registers r)) (sym size) (member.registers r));
+    registers = λ r. subst (λ (l : AbstractValue D). IsValue Member mode places memory.length l (value_at s.registers r)) (sym (same r)) (subst (λ (j : ℕ). IsValue Member mode places j (abstract_at a.values r) (value_at s.registers r)) (sym size) (member.registers r));
     groups = λ g lt. subst (λ (j : ℕ). IsValue Member mode places j (group_at registers g) (pointer_in memory.stack.groups g)) (sym size) (groups g lt);
     cells = cells;
     tagged = memory_tagged s memory n p is member.tagged;
@@ -156,7 +156,7 @@ module _ {D : Type 0} (Member : D → ℕ → Type 0) (mode : Mode) (places : Pl
 
   -- slot and plan are no part of the abstract state
   member_elsewhere : (n : ℕ) (p : Plan) → IsMemberAt Member mode places a (record s { slot = n; plan = p })
-  member_elsewhere n p = with_new_memory a.registers a.marks s.memory n p member.known_count (λ r. refl) member.marks_count refl member.tagged.memory member.cells member.groups
+  member_elsewhere n p = with_new_memory a.values a.marks s.memory n p member.known_count (λ r. refl) member.marks_count refl member.tagged.memory member.cells member.groups
 
   -- a jump changes no more than the slot
   pub member_moved : (n : ℕ) → IsMemberAt Member mode places a (record s { slot = n })
@@ -166,29 +166,29 @@ module _ {D : Type 0} (Member : D → ℕ → Type 0) (mode : Mode) (places : Pl
   member_planned p = member_elsewhere s.slot p
 
   -- the anchors may be elsewhere where those that registers name stay
-  pub member_extends : (more : Places) → Extends (greatest_id a.registers) places more → IsMemberAt Member mode more a s
+  pub member_extends : (more : Places) → Extends (greatest_id a.values) places more → IsMemberAt Member mode more a s
   member_extends more extends = record {
     reaches = member.reaches;
     known_count = member.known_count;
     marks_count = member.marks_count;
-    registers = λ r. moved_value Member mode (greatest_id a.registers) places more s.memory.length (abstract_at a.registers r) (value_at s.registers r) extends (id_at_most a.registers (number_of r)) (member.registers r);
-    groups = λ g lt. moved_value Member mode (greatest_id a.registers) places more s.memory.length (group_at a.registers g) (pointer_in s.memory.stack.groups g) extends (id_at_most a.registers (group_index g)) (member.groups g lt);
+    registers = λ r. moved_value Member mode (greatest_id a.values) places more s.memory.length (abstract_at a.values r) (value_at s.registers r) extends (id_at_most a.values (number_of r)) (member.registers r);
+    groups = λ g lt. moved_value Member mode (greatest_id a.values) places more s.memory.length (group_at a.values g) (pointer_in s.memory.stack.groups g) extends (id_at_most a.values (group_index g)) (member.groups g lt);
     cells = member.cells;
     tagged = member.tagged;
   }
 
   -- the datagram reaches as far from an anchor on
-  reached_value : (id : ℕ) (z : ℤ) → (places id +ℤ z) ≤ℤ pos s.memory.length → (r : Reg) → IsValue Member mode places s.memory.length (abstract_at (map (raised_value id z) a.registers) r) (value_at s.registers r)
+  reached_value : (id : ℕ) (z : ℤ) → (places id +ℤ z) ≤ℤ pos s.memory.length → (r : Reg) → IsValue Member mode places s.memory.length (abstract_at (map (raised_value id z) a.values) r) (value_at s.registers r)
   reached_value id z le r =
-      let is : abstract_at (map (raised_value id z) a.registers) r ≡ raised_value id z (abstract_at a.registers r) = get_or-map (raised_value id z) a.registers (number_of r) known.Nothing known.Nothing (omega (arith, in_eleven r, member.known_count)) in
+      let is : abstract_at (map (raised_value id z) a.values) r ≡ raised_value id z (abstract_at a.values r) = get_or-map (raised_value id z) a.values (number_of r) known.Nothing known.Nothing (omega (arith, in_eleven r, member.known_count)) in
       subst (λ (k : AbstractValue D). IsValue Member mode places s.memory.length k (value_at s.registers r)) (sym is)
-      (value_raised Member mode places s.memory.length id z (abstract_at a.registers r) (value_at s.registers r) le (member.registers r))
+      (value_raised Member mode places s.memory.length id z (abstract_at a.values r) (value_at s.registers r) le (member.registers r))
 
-  reached_group : (id : ℕ) (z : ℤ) → (places id +ℤ z) ≤ℤ pos s.memory.length → (g : ℕ) → g < GROUPS → IsValue Member mode places s.memory.length (group_at (map (raised_value id z) a.registers) g) (pointer_in s.memory.stack.groups g)
+  reached_group : (id : ℕ) (z : ℤ) → (places id +ℤ z) ≤ℤ pos s.memory.length → (g : ℕ) → g < GROUPS → IsValue Member mode places s.memory.length (group_at (map (raised_value id z) a.values) g) (pointer_in s.memory.stack.groups g)
   reached_group id z le g lt =
-      let is : group_at (map (raised_value id z) a.registers) g ≡ raised_value id z (group_at a.registers g) = get_or-map (raised_value id z) a.registers (group_index g) known.Nothing known.Nothing (omega (arith, lt, member.known_count)) in
+      let is : group_at (map (raised_value id z) a.values) g ≡ raised_value id z (group_at a.values g) = get_or-map (raised_value id z) a.values (group_index g) known.Nothing known.Nothing (omega (arith, lt, member.known_count)) in
       subst (λ (k : AbstractValue D). IsValue Member mode places s.memory.length k (pointer_in s.memory.stack.groups g)) (sym is)
-      (value_raised Member mode places s.memory.length id z (group_at a.registers g) (pointer_in s.memory.stack.groups g) le (member.groups g lt))
+      (value_raised Member mode places s.memory.length id z (group_at a.values g) (pointer_in s.memory.stack.groups g) le (member.groups g lt))
 
   member_reaching : (anchor : Anchor) (z : ℤ) (to : ℕ) → (place_of places anchor +ℤ z) ≤ℤ pos s.memory.length → IsMemberAt Member mode places (with_reach a anchor z) (record s { slot = to })
   member_reaching First z to le = record {
@@ -202,7 +202,7 @@ module _ {D : Type 0} (Member : D → ℕ → Type 0) (mode : Mode) (places : Pl
   }
   member_reaching (Made id low high proved) z to le = record {
     reaches = member.reaches;
-    known_count = length-map a.registers (raised_value id z) ∙ member.known_count;
+    known_count = length-map a.values (raised_value id z) ∙ member.known_count;
     marks_count = member.marks_count;
     registers = reached_value id z le;
     groups = reached_group id z le;
@@ -238,7 +238,7 @@ module _ {D : Type 0} (Member : D → ℕ → Type 0) (mode : Mode) (places : Pl
 
   -- the groups after a store
   abbrev one_group : ℕ → List (AbstractValue D)
-  one_group i = slice_set a.registers (group_index (group_of i)) known.Nothing
+  one_group i = slice_set a.values (group_index (group_of i)) known.Nothing
 
   abbrev two_groups : ℕ → ℕ → List (AbstractValue D)
   two_groups n i = slice_set (one_group i) (group_index (second_group n i)) known.Nothing
@@ -246,24 +246,24 @@ module _ {D : Type 0} (Member : D → ℕ → Type 0) (mode : Mode) (places : Pl
   abbrev three_groups : ℕ → ℕ → List (AbstractValue D)
   three_groups n i = slice_set (two_groups n i) (group_index (third_group n i)) known.Nothing
 
-  length-one : (i : ℕ) → length (one_group i) ≡ length a.registers
-  length-one i = length-set a.registers (group_index (group_of i)) known.Nothing
+  length-one : (i : ℕ) → length (one_group i) ≡ length a.values
+  length-one i = length-set a.values (group_index (group_of i)) known.Nothing
 
-  length-two : (n i : ℕ) → length (two_groups n i) ≡ length a.registers
+  length-two : (n i : ℕ) → length (two_groups n i) ≡ length a.values
   length-two n i = length-set (one_group i) (group_index (second_group n i)) known.Nothing ∙ length-one i
 
-  length-three : (n i : ℕ) → length (three_groups n i) ≡ length a.registers
+  length-three : (n i : ℕ) → length (three_groups n i) ≡ length a.values
   length-three n i = length-set (two_groups n i) (group_index (third_group n i)) known.Nothing ∙ length-two n i
 
-  length-without_groups : (n i : ℕ) → length (without_groups a.registers n i) ≡ length a.registers
+  length-without_groups : (n i : ℕ) → length (without_groups a.values n i) ≡ length a.values
   length-without_groups n i = length-set (three_groups n i) (group_index (last_group n i)) known.Nothing ∙ length-three n i
 
-  register_without : (n i : ℕ) (r : Reg) → abstract_at (without_groups a.registers n i) r ≡ abstract_at a.registers r
+  register_without : (n i : ℕ) (r : Reg) → abstract_at (without_groups a.values n i) r ≡ abstract_at a.values r
   register_without n i r =
       get_or-set_other (three_groups n i) (group_index (last_group n i)) (number_of r) known.Nothing known.Nothing (λ e. omega (arith, in_eleven r, e))
       ∙ get_or-set_other (two_groups n i) (group_index (third_group n i)) (number_of r) known.Nothing known.Nothing (λ e. omega (arith, in_eleven r, e))
       ∙ get_or-set_other (one_group i) (group_index (second_group n i)) (number_of r) known.Nothing known.Nothing (λ e. omega (arith, in_eleven r, e))
-      ∙ get_or-set_other a.registers (group_index (group_of i)) (number_of r) known.Nothing known.Nothing (λ e. omega (arith, in_eleven r, e))
+      ∙ get_or-set_other a.values (group_index (group_of i)) (number_of r) known.Nothing known.Nothing (λ e. omega (arith, in_eleven r, e))
 
   both_are : {k l : AbstractValue D} {u v : Value} → l ≡ k → u ≡ v → IsValue Member mode places s.memory.length k v → IsValue Member mode places s.memory.length l u
   both_are {k} {l} {u} {v} p q is = subst (λ (x : AbstractValue D). IsValue Member mode places s.memory.length x u) (sym p) (subst (IsValue Member mode places s.memory.length k) (sym q) is)
@@ -287,9 +287,9 @@ module _ {D : Type 0} (Member : D → ℕ → Type 0) (mode : Mode) (places : Pl
     | inr other ↦ group_still registers g h other ∙ e
   ]
 
-  group_without : (n i g : ℕ) → g < GROUPS → IsValue Member mode places s.memory.length (group_at (without_groups a.registers n i) g) (pointer_in (without_pointers s.memory.stack.groups n i) g)
+  group_without : (n i g : ℕ) → g < GROUPS → IsValue Member mode places s.memory.length (group_at (without_groups a.values n i) g) (pointer_in (without_pointers s.memory.stack.groups n i) g)
   group_without n i g lt =
-      let count : length a.registers ≡ 75 = member.known_count in
+      let count : length a.values ≡ 75 = member.known_count in
       let one : length (one_group i) ≡ 75 = length-one i ∙ count in
       let two : length (two_groups n i) ≡ 75 = length-two n i ∙ count in
       let three : length (three_groups n i) ≡ 75 = length-three n i ∙ count in
@@ -305,10 +305,10 @@ module _ {D : Type 0} (Member : D → ℕ → Type 0) (mode : Mode) (places : Pl
                 (at (second_group n i) same (second_without s.memory.stack.groups n i))
             | inr second ↦ elim (cases_eq g (group_of i)) [
               | inl same ↦
-                  no_value (stays_unknown (three_groups n i) (last_group n i) g three lt (stays_unknown (two_groups n i) (third_group n i) g two lt (stays_unknown (one_group i) (second_group n i) g one lt (set_unknown a.registers (group_of i) g count lt same))))
+                  no_value (stays_unknown (three_groups n i) (last_group n i) g three lt (stays_unknown (two_groups n i) (third_group n i) g two lt (stays_unknown (one_group i) (second_group n i) g one lt (set_unknown a.values (group_of i) g count lt same))))
                   (at (group_of i) same (first_without s.memory.stack.groups n i))
               | inr first ↦
-                  both_are (group_still (three_groups n i) (last_group n i) g last ∙ group_still (two_groups n i) (third_group n i) g third ∙ group_still (one_group i) (second_group n i) g second ∙ group_still a.registers (group_of i) g first)
+                  both_are (group_still (three_groups n i) (last_group n i) g last ∙ group_still (two_groups n i) (third_group n i) g third ∙ group_still (one_group i) (second_group n i) g second ∙ group_still a.values (group_of i) g first)
                   (other_without s.memory.stack.groups n i g first second third last) (member.groups g lt)
             ]
           ]
@@ -321,13 +321,13 @@ module _ {D : Type 0} (Member : D → ℕ → Type 0) (mode : Mode) (places : Pl
   pub member_stored : (n : ℕ) (region : Region) (at : Location) (bytes : List ℕ) (to : ℕ) → IsRegionOf n region at → n ≤ 24 → length bytes ≡ n → All (λ b. b < 256) bytes → IsMemberAt Member mode places (with_region a n region) (record s { slot = to; memory = written_at s.memory at bytes })
   member_stored n (regions.InStack i) (InStack j) bytes to is few long fit =
       subst (λ (m : ℕ). IsMemberAt Member mode places (with_region a n (regions.InStack i)) (record s { slot = to; memory = written_at s.memory (InStack m) bytes })) is.0
-      (with_new_memory (without_groups a.registers n i) (marks_from a.marks i n) (written_at s.memory (InStack i) bytes) to s.plan (length-without_groups n i ∙ member.known_count) (register_without n i) (length-marked n i a.marks ∙ member.marks_count) refl
+      (with_new_memory (without_groups a.values n i) (marks_from a.marks i n) (written_at s.memory (InStack i) bytes) to s.plan (length-without_groups n i ∙ member.known_count) (register_without n i) (length-marked n i a.marks ∙ member.marks_count) refl
       (written_is_memory s.memory (InStack i) bytes member.tagged.memory (omega (arith, few, long)) fit) (stored_cell i n bytes is.1 long)
-      (λ g lt. subst (λ (m : ℕ). IsValue Member mode places s.memory.length (group_at (without_groups a.registers n i) g) (pointer_in (without_pointers s.memory.stack.groups m i) g)) (sym long) (group_without n i g lt)))
+      (λ g lt. subst (λ (m : ℕ). IsValue Member mode places s.memory.length (group_at (without_groups a.values n i) g) (pointer_in (without_pointers s.memory.stack.groups m i) g)) (sym long) (group_without n i g lt)))
   member_stored n (regions.InStack i) (InBytes j) bytes to is few long fit = absurd is
   member_stored n regions.InBytes (InStack j) bytes to is few long fit = absurd is
   member_stored n regions.InBytes (InBytes j) bytes to is few long fit =
-      with_new_memory a.registers a.marks (written_at s.memory (InBytes j) bytes) to s.plan member.known_count (λ r. refl) member.marks_count refl (written_is_memory s.memory (InBytes j) bytes member.tagged.memory (omega (arith, few, long)) fit) member.cells member.groups
+      with_new_memory a.values a.marks (written_at s.memory (InBytes j) bytes) to s.plan member.known_count (λ r. refl) member.marks_count refl (written_is_memory s.memory (InBytes j) bytes member.tagged.memory (omega (arith, few, long)) fit) member.cells member.groups
 
   -- ---- a pointer is stored
 
@@ -346,22 +346,22 @@ module _ {D : Type 0} (Member : D → ℕ → Type 0) (mode : Mode) (places : Pl
         ]
   ]
 
-  register_beside : (g : ℕ) (k : AbstractValue D) (r : Reg) → abstract_at (slice_set a.registers (group_index g) k) r ≡ abstract_at a.registers r
-  register_beside g k r = get_or-set_other a.registers (group_index g) (number_of r) k known.Nothing (λ e. omega (arith, in_eleven r, e))
+  register_beside : (g : ℕ) (k : AbstractValue D) (r : Reg) → abstract_at (slice_set a.values (group_index g) k) r ≡ abstract_at a.values r
+  register_beside g k r = get_or-set_other a.values (group_index g) (number_of r) k known.Nothing (λ e. omega (arith, in_eleven r, e))
 
-  group_with : (g : ℕ) (k : AbstractValue D) (v : Value) → g < GROUPS → IsValue Member mode places s.memory.length k v → (h : ℕ) → h < GROUPS → IsValue Member mode places s.memory.length (group_at (slice_set a.registers (group_index g) k) h) (pointer_in (slice_set s.memory.stack.groups g v) h)
+  group_with : (g : ℕ) (k : AbstractValue D) (v : Value) → g < GROUPS → IsValue Member mode places s.memory.length k v → (h : ℕ) → h < GROUPS → IsValue Member mode places s.memory.length (group_at (slice_set a.values (group_index g) k) h) (pointer_in (slice_set s.memory.stack.groups g v) h)
   group_with g k v lt is h below = elim (cases_eq h g) [
     | inl same ↦
-        let known_is : group_at (slice_set a.registers (group_index g) k) h ≡ k = get_or-set_at a.registers (group_index g) (group_index h) k known.Nothing (ap group_index same) (omega (arith, lt, member.known_count)) in
+        let known_is : group_at (slice_set a.values (group_index g) k) h ≡ k = get_or-set_at a.values (group_index g) (group_index h) k known.Nothing (ap group_index same) (omega (arith, lt, member.known_count)) in
         let value_is : pointer_in (slice_set s.memory.stack.groups g v) h ≡ v = get_or-set_at s.memory.stack.groups g h v value.Nothing same (omega (arith, lt, member.tagged.memory.groups_count)) in
         both_are known_is value_is is
     | inr other ↦
-        both_are (get_or-set_other a.registers (group_index g) (group_index h) k known.Nothing (λ e. other (omega (arith, e)))) (get_or-set_other s.memory.stack.groups g h v value.Nothing other) (member.groups h below)
+        both_are (get_or-set_other a.values (group_index g) (group_index h) k known.Nothing (λ e. other (omega (arith, e)))) (get_or-set_other s.memory.stack.groups g h v value.Nothing other) (member.groups h below)
   ]
 
   pub member_with_pointer : (g : ℕ) (k : AbstractValue D) (v : Value) (to : ℕ) → g < GROUPS → IsHeld Member places s.memory.length k v → IsKept v → IsMemberAt Member mode places (abstract_with_pointer a g k) (record s { slot = to; memory = memory_with_pointer s.memory g v })
   member_with_pointer g k v to lt held kept =
-      with_new_memory (slice_set a.registers (group_index g) k) (unmarked_from a.marks (8 * g) 8) (memory_with_pointer s.memory g v) to s.plan (length-set a.registers (group_index g) k ∙ member.known_count) (register_beside g k) (length-unmarked 8 (8 * g) a.marks ∙ member.marks_count) refl
+      with_new_memory (slice_set a.values (group_index g) k) (unmarked_from a.marks (8 * g) 8) (memory_with_pointer s.memory g v) to s.plan (length-set a.values (group_index g) k ∙ member.known_count) (register_beside g k) (length-unmarked 8 (8 * g) a.marks ∙ member.marks_count) refl
       (stored_is_memory s.memory g v member.tagged.memory lt kept) (unset_cell g lt) (group_with g k v lt (held_value Member mode places s.memory.length k v held))
 
 -- ---- a call
@@ -401,7 +401,7 @@ unmarked i = elim (cases_lt i STACK_BYTES) [
   | inr le ↦ get_or_past no_marks.cells i false (omega (arith, no_marks_count, le))
 ]
 
-first_registers_are : {D : Type 0} (Member : D → ℕ → Type 0) (mode : Mode) (d : List ℕ) (r : Reg) → IsValue Member mode at_first (length d) (abstract_at first_abstract_state.registers r) (value_at (start d).registers r)
+first_registers_are : {D : Type 0} (Member : D → ℕ → Type 0) (mode : Mode) (d : List ℕ) (r : Reg) → IsValue Member mode at_first (length d) (abstract_at first_abstract_state.values r) (value_at (start d).registers r)
 first_registers_are Member mode d reg.R0 = λ e. refl
 first_registers_are Member mode d reg.R1 = (0, tt, refl)
 first_registers_are Member mode d reg.R2 = λ e. refl
@@ -422,14 +422,14 @@ no_group D g = let none : AbstractValue D = known.Nothing in elim (cases_lt g GR
   | inr le ↦ get_or_past (replicate GROUPS none) g none (omega (arith, length-replicate GROUPS none, le))
 ]
 
-first_count : (D : Type 0) → length (first_abstract_state {D = D}).registers ≡ 75
+first_count : (D : Type 0) → length (first_abstract_state {D = D}).values ≡ 75
 unfolding no_groups
 first_count D = let none : AbstractValue D = known.Nothing in omega (arith, length-replicate GROUPS none)
 
-first_group_is : {D : Type 0} (Member : D → ℕ → Type 0) (mode : Mode) (d : List ℕ) (g : ℕ) → IsValue Member mode at_first (length d) (group_at first_abstract_state.registers g) (pointer_in no_pointers g)
+first_group_is : {D : Type 0} (Member : D → ℕ → Type 0) (mode : Mode) (d : List ℕ) (g : ℕ) → IsValue Member mode at_first (length d) (group_at first_abstract_state.values g) (pointer_in no_pointers g)
 first_group_is {D} Member mode d g =
     let at : 11 + g ≡ suc (suc (suc (suc (suc (suc (suc (suc (suc (suc (suc g)))))))))) = omega arith in
-    subst (λ (k : AbstractValue D). IsValue Member mode at_first (length d) k (pointer_in no_pointers g)) (sym (ap (λ (n : ℕ). slice_index_or (first_abstract_state {D = D}).registers n known.Nothing) at ∙ no_group D g)) (λ e. no_pointer_at g)
+    subst (λ (k : AbstractValue D). IsValue Member mode at_first (length d) k (pointer_in no_pointers g)) (sym (ap (λ (n : ℕ). slice_index_or (first_abstract_state {D = D}).values n known.Nothing) at ∙ no_group D g)) (λ e. no_pointer_at g)
 
 none_proved : (n : ℕ) → pos 0 ≤ℤ pos n
 none_proved n = omega (arith, ints)
@@ -495,7 +495,7 @@ module _ {D : Type 0} (Member : D → ℕ → Type 0) (words : (x : D) (n : ℕ)
     kinds_at n lt =
         let r = reg_at n (omega (arith, lt, member_s.tagged.count)) in
         subst (λ (j : ℕ). SameKind (slice_index_or s.registers j value.Nothing) (slice_index_or t.registers j value.Nothing)) r.1
-        (same_kind s.memory.length t.memory.length (abstract_at a.registers r.0) (value_at s.registers r.0) (value_at t.registers r.0) (member_s.registers r.0) (member_t.registers r.0))
+        (same_kind s.memory.length t.memory.length (abstract_at a.values r.0) (value_at s.registers r.0) (value_at t.registers r.0) (member_s.registers r.0) (member_t.registers r.0))
 
     pub members_loosen : t.slot ≡ s.slot → t.memory ≡ s.memory → t.plan ≡ s.plan → Loosens s t
     members_loosen slot memory plan = record {

@@ -217,7 +217,7 @@ module _ {D : Type 0} (Member : D → ℕ → Type 0) (claimed : Reason → Type
   abbrev groups : List Value
   groups = s.memory.stack.groups
 
-  at_group : (i : ℕ) → i < 512 → IsValue Member mode places s.memory.length (group_at a.registers (group_of i)) (pointer_in groups (group_of i))
+  at_group : (i : ℕ) → i < 512 → IsValue Member mode places s.memory.length (group_at a.values (group_of i)) (pointer_in groups (group_of i))
   at_group i lt = member.groups (group_of i) (omega (arith, lt))
 
   -- a cell that is set is no part of a pointer
@@ -229,7 +229,7 @@ module _ {D : Type 0} (Member : D → ℕ → Type 0) (claimed : Reason → Type
 
   touched_known : (n i : ℕ) → i + n ≤ 512 → abstract.touches_known a n i ≡ true → touches_pointer groups n i ≡ true
   touched_known n i short =
-      group_implied (λ g. abstract.is_known_pointer (group_at a.registers g)) (λ g. is_pointer (pointer_in groups g)) n i
+      group_implied (λ g. abstract.is_known_pointer (group_at a.values g)) (λ g. is_pointer (pointer_in groups g)) n i
       (λ j from to. pointer_known Member mode places s.memory.length _ _ (at_group j (omega (arith, to, short))))
 
   -- none of the cells that are set is a part of a pointer
@@ -241,7 +241,7 @@ module _ {D : Type 0} (Member : D → ℕ → Type 0) (claimed : Reason → Type
 
   touched_same : (n i : ℕ) → i + n ≤ 512 → mode ≡ Strict → touches_pointer groups n i ≡ abstract.touches_known a n i
   touched_same n i short strict =
-      groups_agree (λ g. is_pointer (pointer_in groups g)) (λ g. abstract.is_known_pointer (group_at a.registers g)) n i
+      groups_agree (λ g. is_pointer (pointer_in groups g)) (λ g. abstract.is_known_pointer (group_at a.values g)) n i
       (λ j from to. pointer_same Member mode places s.memory.length _ _ (at_group j (omega (arith, to, short))) strict)
 
   cells_read : {X : Type 0} (P : X → Type 0) (option : Option X) (n i : ℕ) → i + n ≤ 512 → Agree claimed (λ (u : Unit {0}) (x : X). P x) (check (are_marked a.marks i n) UninitStack) (ok_or option UninitStack)
@@ -282,14 +282,14 @@ module _ {D : Type 0} (Member : D → ℕ → Type 0) (claimed : Reason → Type
 
   module _ (F : AbstractValue D → Value → Type 0) (holds : (k : AbstractValue D) (v : Value) → IsHeld Member places s.memory.length k v → F k v) (number : D) where
     whole_by : (i : ℕ) (numbers : Result ℕ Reason) → i + 8 ≤ 512 → is_aligned i ≡ true → Agree claimed F (abstract.cells_readable a 8 i >>= λ u. Ok (known.Scalar number)) (numbers >>= λ n. Ok (value.Scalar n))
-        → (p : Bool) → abstract.is_known_pointer (group_at a.registers (group_of i)) ≡ p → (q : Bool) → is_pointer (pointer_in groups (group_of i)) ≡ q
-        → Agree claimed F (abstract.known_or (if p then Some (group_at a.registers (group_of i)) else None) (abstract.cells_readable a 8 i) number) (pointer_or (if q then Some (pointer_in groups (group_of i)) else None) numbers)
+        → (p : Bool) → abstract.is_known_pointer (group_at a.values (group_of i)) ≡ p → (q : Bool) → is_pointer (pointer_in groups (group_of i)) ≡ q
+        → Agree claimed F (abstract.known_or (if p then Some (group_at a.values (group_of i)) else None) (abstract.cells_readable a 8 i) number) (pointer_or (if q then Some (pointer_in groups (group_of i)) else None) numbers)
     whole_by i numbers short aligned agree true e true f = holds _ _ (held_pointer Member mode places s.memory.length _ _ (at_group i (omega (arith, short))) e)
     whole_by i numbers short aligned agree true e false f = absurd (let bad : false ≡ true = sym f ∙ pointer_known Member mode places s.memory.length _ _ (at_group i (omega (arith, short))) e in cc)
     whole_by i numbers short aligned agree false e false f = agree
     whole_by i numbers short aligned agree false e true f =
         unknown_pointer F (λ u. Ok (known.Scalar number)) i (pointer_in groups (group_of i)) short
-        (any_of_aligned (λ g. abstract.is_known_pointer (group_at a.registers g)) i aligned ∙ e)
+        (any_of_aligned (λ g. abstract.is_known_pointer (group_at a.values g)) i aligned ∙ e)
         (any_of_aligned (λ g. is_pointer (pointer_in groups g)) i aligned ∙ f)
 
     -- what a load of a size reads at a region
@@ -301,7 +301,7 @@ module _ {D : Type 0} (Member : D → ℕ → Type 0) (claimed : Reason → Type
 
     double_read : (i : ℕ) → i + 8 ≤ 512 → NumbersAlike size.Double (regions.InStack i) (InStack i) → (t : Bool) → is_aligned i ≡ t
         → Agree claimed F (abstract.known_or (abstract.known_in a (if t then Some (group_of i) else None)) (abstract.cells_readable a 8 i) number) (pointer_or (kept_in s.memory (if t then Some (group_of i) else None)) (number_in s.memory 8 (InStack i)))
-    double_read i short numbers true aligned = whole_by i (number_in s.memory 8 (InStack i)) short aligned numbers (abstract.is_known_pointer (group_at a.registers (group_of i))) refl (is_pointer (pointer_in groups (group_of i))) refl
+    double_read i short numbers true aligned = whole_by i (number_in s.memory 8 (InStack i)) short aligned numbers (abstract.is_known_pointer (group_at a.values (group_of i))) refl (is_pointer (pointer_in groups (group_of i))) refl
     double_read i short numbers false aligned = numbers
 
     stack_alike : (z : Size) (i : ℕ) → i + byte_count z ≤ 512 → NumbersAlike z (regions.InStack i) (InStack i) → ReadsAlike z (regions.InStack i) (InStack i)

@@ -155,9 +155,9 @@ module _ {D : Type 0} (ops : Operations D) (Member : D → ℕ → Type 0) (soun
       effect_opens (effect.Exit verdict) is goes = absurd is
 
     fork_opens : (not_taken taken : Option (AbsState D)) (o : Effect) → effects.effect w.context s.memory s.registers i ≡ Ok o → Forks ops Member sound Strict places a s i not_taken taken o
-        → (branch : Branch) (b : AbsState D) (n : ℕ) → state_after (next.Fork not_taken taken) branch ≡ Some b → branch_slot code s.slot i branch ≡ Ok n → b.proved ≤ℤ pos s.memory.length → reach_of a.registers ≤ℤ pos s.memory.length → Opens Member w code s n b
+        → (branch : Branch) (b : AbsState D) (n : ℕ) → state_after (next.Fork not_taken taken) branch ≡ Some b → branch_slot code s.slot i branch ≡ Ok n → b.proved ≤ℤ pos s.memory.length → reach_of a.values ≤ℤ pos s.memory.length → Opens Member w code s n b
     fork_opens not_taken taken o effect_is d branch b n after leads le reach =
-        let extra : d.extra ≤ℤ pos s.memory.length = within_both d.extra (reach_of a.registers) (pos s.memory.length) d.within reach in
+        let extra : d.extra ≤ℤ pos s.memory.length = within_both d.extra (reach_of a.values) (pos s.memory.length) d.within reach in
         let opened = d.opens precise refl branch b after le extra n in
         record {
           state = record s { slot = n };
@@ -185,7 +185,7 @@ module _ {D : Type 0} (ops : Operations D) (Member : D → ℕ → Type 0) (soun
           member = record { places = places; at = opened.member };
         }
 
-    pub step_opens : (answer : Next D) → abstract.abstract_step ops a i ≡ Ok answer → (branch : Branch) (b : AbsState D) (n : ℕ) → state_after answer branch ≡ Some b → branch_slot code s.slot i branch ≡ Ok n → b.proved ≤ℤ pos s.memory.length → reach_of a.registers ≤ℤ pos s.memory.length → Opens Member w code s n b
+    pub step_opens : (answer : Next D) → abstract.abstract_step ops a i ≡ Ok answer → (branch : Branch) (b : AbsState D) (n : ℕ) → state_after answer branch ≡ Some b → branch_slot code s.slot i branch ≡ Ok n → b.proved ≤ℤ pos s.memory.length → reach_of a.values ≤ℤ pos s.memory.length → Opens Member w code s n b
     step_opens (next.On c) is NotTaken b n e leads le reach =
         let agree = accepted_agree ops Member sound Strict places a s member w.context real.context i fit (next.On c) is in
         effect_opens b n leads agree.0 (subst (λ (x : AbsState D). IsEffectOf ops Member sound Strict places a s i (next.On x) agree.0) (same_state c b e) agree.2) (step_is w code s i (Ok agree.0) here agree.1)

@@ -52,21 +52,21 @@ module _ {D : Type 0} (ops : Operations D) (a b : AbsState D) where
   -- ---- the parts of a state that covers another one
 
   abbrev values_covered : Bool
-  values_covered = covers_values ops a b a.registers b.registers
+  values_covered = covers_values ops a b a.values b.values
 
   abbrev shared_alike : Bool
-  shared_alike = share_alike a.registers b.registers
+  shared_alike = share_alike a.values b.values
 
-  pub values_of : covers ops a b ≡ true → covers_values ops a b a.registers b.registers ≡ true
+  pub values_of : covers ops a b ≡ true → covers_values ops a b a.values b.values ≡ true
   values_of e = first_of_and values_covered shared_alike (first_of_and (values_covered && shared_alike) (covers_memory a b) e)
 
-  pub shares_of : covers ops a b ≡ true → share_alike a.registers b.registers ≡ true
+  pub shares_of : covers ops a b ≡ true → share_alike a.values b.values ≡ true
   shares_of e = rest_of_and values_covered shared_alike (first_of_and (values_covered && shared_alike) (covers_memory a b) e)
 
   pub proved_of_covered : covers ops a b ≡ true → int_le a.proved b.proved ≡ true
   proved_of_covered e = first_of_and (int_le a.proved b.proved) (covers_marks a.marks.cells b.marks.cells) (rest_of_and (values_covered && shared_alike) (covers_memory a b) e)
 
-  pub all_covered : covers_values ops a b a.registers b.registers ≡ true → share_alike a.registers b.registers ≡ true → int_le a.proved b.proved ≡ true → covers_marks a.marks.cells b.marks.cells ≡ true → covers ops a b ≡ true
+  pub all_covered : covers_values ops a b a.values b.values ≡ true → share_alike a.values b.values ≡ true → int_le a.proved b.proved ≡ true → covers_marks a.marks.cells b.marks.cells ≡ true → covers ops a b ≡ true
   all_covered values shares proved marks =
       both_true (values_covered && shared_alike) (covers_memory a b) (both_true values_covered shared_alike values shares) (both_true (int_le a.proved b.proved) (covers_marks a.marks.cells b.marks.cells) proved marks)
 
@@ -96,11 +96,11 @@ groups_kept kept values count (inl unknown) = (ap all_groups unknown.0 ∙ group
 groups_kept kept values count (inr same) = (ap all_groups same ∙ groups_listed values count, omega (arith, ap (λ (xs : List (AbstractValue _)). length xs) same, count))
 
 -- a state is that of its parts
-pub whole_state : {D : Type 0} (a : AbsState D) (registers groups kept : List (AbstractValue D)) (words : List ℕ) → a.registers ≡ registers ++ groups → all_groups kept ≡ groups → words ≡ words_of a.marks.cells → length a.marks.cells ≡ 512 → unpacked registers kept words a.proved ≡ a
+pub whole_state : {D : Type 0} (a : AbsState D) (registers groups kept : List (AbstractValue D)) (words : List ℕ) → a.values ≡ registers ++ groups → all_groups kept ≡ groups → words ≡ words_of a.marks.cells → length a.marks.cells ≡ 512 → unpacked registers kept words a.proved ≡ a
 whole_state a registers groups kept words values same is count =
     let marks : marks_of words ≡ a.marks.cells = ap marks_of is ∙ marks_of_words a.marks.cells count in
-    ap (λ (xs : List (AbstractValue _)). record { registers = registers ++ xs; marks = record { cells = marks_of words }; proved = a.proved }) same
-    ∙ ap (λ (xs : List (AbstractValue _)). record { registers = xs; marks = record { cells = marks_of words }; proved = a.proved }) (sym values) ∙ ap (λ (cells : List Bool). record { registers = a.registers; marks = record { cells = cells }; proved = a.proved }) marks
+    ap (λ (xs : List (AbstractValue _)). record { values = registers ++ xs; marks = record { cells = marks_of words }; proved = a.proved }) same
+    ∙ ap (λ (xs : List (AbstractValue _)). record { values = xs; marks = record { cells = marks_of words }; proved = a.proved }) (sym values) ∙ ap (λ (cells : List Bool). record { values = a.values; marks = record { cells = cells }; proved = a.proved }) marks
 
 pub words_kept : (words : List ℕ) (cells : List Bool) → words ≡ words_of cells → length cells ≡ 512 → (words_of (marks_of words) ≡ words) × (length (marks_of words) ≡ 512)
 words_kept words cells is count =
@@ -147,13 +147,13 @@ module _ {D : Type 0} (ops : Operations D) (a b : AbsState D) where
   pub proved_differs : (proved : ℤ) → a.proved ≡ proved → int_le a.proved b.proved ≡ false → Differs ops a b (part.Proved proved)
   proved_differs proved is more = record { uncovered = ruled_out (covers ops a b) (int_le a.proved b.proved) (proved_of_covered ops a b) more; is_part = is }
 
-  pub sharing_differs : (i j : ℕ) → IsPartOf a (part.Linked i j) → share_alike a.registers b.registers ≡ false → Differs ops a b (part.Linked i j)
-  sharing_differs i j linked apart = record { uncovered = ruled_out (covers ops a b) (share_alike a.registers b.registers) (shares_of ops a b) apart; is_part = linked }
+  pub sharing_differs : (i j : ℕ) → IsPartOf a (part.Linked i j) → share_alike a.values b.values ≡ false → Differs ops a b (part.Linked i j)
+  sharing_differs i j linked apart = record { uncovered = ruled_out (covers ops a b) (share_alike a.values b.values) (shares_of ops a b) apart; is_part = linked }
 
-  pub value_differs : (i : ℕ) (v : AbstractValue D) (proved : ℤ) → slice_index_or a.registers i Nothing ≡ v → a.proved ≡ proved → covers_value ops a b v (slice_index_or b.registers i Nothing) ≡ false → Differs ops a b (part.Value i v proved)
+  pub value_differs : (i : ℕ) (v : AbstractValue D) (proved : ℤ) → slice_index_or a.values i Nothing ≡ v → a.proved ≡ proved → covers_value ops a b v (slice_index_or b.values i Nothing) ≡ false → Differs ops a b (part.Value i v proved)
   value_differs i v proved at is outside = record {
-    uncovered = ruled_out (covers ops a b) (covers_value ops a b v (slice_index_or b.registers i Nothing))
-        (λ covered. ap (λ (x : AbstractValue D). covers_value ops a b x (slice_index_or b.registers i Nothing)) (sym at) ∙ values_at ops a b a.registers b.registers i (values_of ops a b covered)) outside;
+    uncovered = ruled_out (covers ops a b) (covers_value ops a b v (slice_index_or b.values i Nothing))
+        (λ covered. ap (λ (x : AbstractValue D). covers_value ops a b x (slice_index_or b.values i Nothing)) (sym at) ∙ values_at ops a b a.values b.values i (values_of ops a b covered)) outside;
     is_part = (at, is);
   }
 
@@ -169,7 +169,7 @@ module _ {D : Type 0} (ops : Operations D) (registers groups : List (AbstractVal
   }
 
   pub covers_all : words_of (marks_of words) ≡ words → (others : List ℕ) → others ≡ words_of b.marks.cells → length (marks_of words) ≡ 512 → length b.marks.cells ≡ 512 → are_within words others ≡ true → int_le a.proved b.proved ≡ true
-      → covers_values ops a b a.registers b.registers ≡ true → share_alike a.registers b.registers ≡ true → covers ops a b ≡ true
+      → covers_values ops a b a.values b.values ≡ true → share_alike a.values b.values ≡ true → covers ops a b ≡ true
   covers_all kept others same long cells within proved values shares =
       let mine : length a.marks.cells ≡ 512 = ap (λ (s : AbsState D). length s.marks.cells) (sym is) ∙ long in
       all_covered ops a b values shares proved

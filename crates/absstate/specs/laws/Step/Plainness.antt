@@ -126,17 +126,17 @@ module _ {D : Type 0} (ops : Operations D) (Member : D → ℕ → Type 0) (soun
 
   -- the states after a step
   abbrev Stays : Next D → Type 0
-  Stays answer = (branch : Branch) (a : AbsState D) → state_after answer branch ≡ Some a → NameNoMadeAnchor a.registers
+  Stays answer = (branch : Branch) (a : AbsState D) → state_after answer branch ≡ Some a → NameNoMadeAnchor a.values
 
   some_is : (a state : AbsState D) → ◌≡◌ {A = Option (AbsState D)} (Some a) (Some state) → a ≡ state
   some_is a state e = cc
 
-  on_stays : (a : AbsState D) → NameNoMadeAnchor a.registers → Stays (next.On a)
-  on_stays a plain NotTaken c e = subst (λ (state : AbsState D). NameNoMadeAnchor state.registers) (some_is a c e) plain
+  on_stays : (a : AbsState D) → NameNoMadeAnchor a.values → Stays (next.On a)
+  on_stays a plain NotTaken c e = subst (λ (state : AbsState D). NameNoMadeAnchor state.values) (some_is a c e) plain
   on_stays a plain Taken c e = absurd cc
 
   abbrev PlainBranch : Option (AbsState D) → Type 0
-  PlainBranch m = (a : AbsState D) → m ≡ Some a → NameNoMadeAnchor a.registers
+  PlainBranch m = (a : AbsState D) → m ≡ Some a → NameNoMadeAnchor a.values
 
   fork_stays : (m option : Option (AbsState D)) → PlainBranch m → PlainBranch option → Stays (next.Fork m option)
   fork_stays m option l g NotTaken b e = l b e
@@ -145,12 +145,12 @@ module _ {D : Type 0} (ops : Operations D) (Member : D → ℕ → Type 0) (soun
   exit_stays : Stays next.Exit
   exit_stays branch b e = absurd cc
 
-  module _ (a : AbsState D) (plain : NameNoMadeAnchor a.registers) where
-    with_plain : (r : Reg) (v : AbstractValue D) → Plain v → NameNoMadeAnchor (with_value a r v).registers
-    with_plain r v h = plain_set a.registers plain (number_of r) v h
+  module _ (a : AbsState D) (plain : NameNoMadeAnchor a.values) where
+    with_plain : (r : Reg) (v : AbstractValue D) → Plain v → NameNoMadeAnchor (with_value a r v).values
+    with_plain r v h = plain_set a.values plain (number_of r) v h
 
     read_plain : (r : Reg) → IfOk (abstract.abstract_register_value a r) Plain
-    read_plain r = held_plain (abstract_at a.registers r) (plain (number_of r))
+    read_plain r = held_plain (abstract_at a.values r) (plain (number_of r))
 
     operand_plain : (w : Width) (operand : Operand) → IfOk (abstract.operand_abstract ops w a operand) Plain
     operand_plain w (operand.Reg r) = read_plain r
@@ -210,19 +210,19 @@ module _ {D : Type 0} (ops : Operations D) (Member : D → ℕ → Type 0) (soun
 
     -- ---- conditional jumps
 
-    kept_plain : (dst : Reg) (operand : Operand) (left : D × D) → NameNoMadeAnchor (abstract.with_operands a dst operand left).registers
+    kept_plain : (dst : Reg) (operand : Operand) (left : D × D) → NameNoMadeAnchor (abstract.with_operands a dst operand left).values
     kept_plain dst (operand.Imm n) left = with_plain dst (known.Scalar left.0) (λ h. h)
     kept_plain dst (operand.Reg src) left =
-        cond_both (number_of dst == number_of src) a (with_value (with_value a dst (known.Scalar left.0)) src (known.Scalar left.1)) (λ b. NameNoMadeAnchor b.registers) (λ e. plain)
-        (λ e. plain_set (with_value a dst (known.Scalar left.0)).registers (with_plain dst (known.Scalar left.0) (λ h. h)) (number_of src) (known.Scalar left.1) (λ h. h))
+        cond_both (number_of dst == number_of src) a (with_value (with_value a dst (known.Scalar left.0)) src (known.Scalar left.1)) (λ b. NameNoMadeAnchor b.values) (λ e. plain)
+        (λ e. plain_set (with_value a dst (known.Scalar left.0)).values (with_plain dst (known.Scalar left.0) (λ h. h)) (number_of src) (known.Scalar left.1) (λ h. h))
 
     refined_plain : (dst : Reg) (operand : Operand) (h : Option (D × D)) → PlainBranch (abstract.state_with_operands a dst operand h)
     refined_plain dst operand None b e = absurd cc
-    refined_plain dst operand (Some left) b e = subst (λ (state : AbsState D). NameNoMadeAnchor state.registers) (some_is (abstract.with_operands a dst operand left) b e) (kept_plain dst operand left)
+    refined_plain dst operand (Some left) b e = subst (λ (state : AbsState D). NameNoMadeAnchor state.values) (some_is (abstract.with_operands a dst operand left) b e) (kept_plain dst operand left)
 
     least_plain : (least : Option ℤ) → PlainBranch (Some (with_least a First least))
-    least_plain None b e = subst (λ (state : AbsState D). NameNoMadeAnchor state.registers) (some_is a b e) plain
-    least_plain (Some n) b e = subst (λ (state : AbsState D). NameNoMadeAnchor state.registers) (some_is (with_least a First (Some n)) b e) plain
+    least_plain None b e = subst (λ (state : AbsState D). NameNoMadeAnchor state.values) (some_is a b e) plain
+    least_plain (Some n) b e = subst (λ (state : AbsState D). NameNoMadeAnchor state.values) (some_is (with_least a First (Some n)) b e) plain
 
     at_first : (result : Result Implied Reason) → IfOk (abstract.at_anchor First result >>= λ t. Ok (next.Fork (Some (with_least a t.0 t.1.not_taken)) (Some (with_least a t.0 t.1.taken)))) Stays
     at_first (Ok i) = fork_stays (Some (with_least a First i.not_taken)) (Some (with_least a First i.taken)) (least_plain i.not_taken) (least_plain i.taken)
@@ -267,7 +267,7 @@ module _ {D : Type 0} (ops : Operations D) (Member : D → ℕ → Type 0) (soun
 
     known_plain : (o : Option ℕ) (allowed : Result (Unit {0}) Reason) (number : D) → IfOk (abstract.known_or (abstract.known_in a o) allowed number) Plain
     known_plain None allowed number = every Plain allowed _ (λ u h. h)
-    known_plain (Some g) allowed number = known_if (group_at a.registers g) (plain (group_index g)) (abstract.is_known_pointer (group_at a.registers g)) allowed number
+    known_plain (Some g) allowed number = known_if (group_at a.values g) (plain (group_index g)) (abstract.is_known_pointer (group_at a.values g)) allowed number
 
     value_plain : (x : AbstractValue D) (d : ℤ) (z : Size) → IfOk (abstract.abstract_load_value ops a x d z) Plain
     unfolding abstract_load_value
@@ -284,17 +284,17 @@ module _ {D : Type 0} (ops : Operations D) (Member : D → ℕ → Type 0) (soun
     loaded_stays : (loaded : AbstractValue D → Result (AbstractValue D) Reason) (dst base : Reg) → ((x : AbstractValue D) → IfOk (loaded x) Plain) → IfOk (abstract.loaded_step a loaded dst base) Stays
     loaded_stays loaded dst base h = every Stays (abstract.abstract_register_value a base) _ (λ x. written_stays dst (loaded x) (h x))
 
-    marks_plain : (state : AbsState D) → NameNoMadeAnchor state.registers → (n i : ℕ) → NameNoMadeAnchor (without_groups state.registers n i)
+    marks_plain : (state : AbsState D) → NameNoMadeAnchor state.values → (n i : ℕ) → NameNoMadeAnchor (without_groups state.values n i)
     marks_plain state h n i =
-        let one = slice_set state.registers (group_index (group_of i)) known.Nothing in
+        let one = slice_set state.values (group_index (group_of i)) known.Nothing in
         let two = slice_set one (group_index (second_group n i)) known.Nothing in
         let three = slice_set two (group_index (third_group n i)) known.Nothing in
-        let first : NameNoMadeAnchor one = plain_set state.registers h (group_index (group_of i)) known.Nothing (λ g. g) in
+        let first : NameNoMadeAnchor one = plain_set state.values h (group_index (group_of i)) known.Nothing (λ g. g) in
         let second : NameNoMadeAnchor two = plain_set one first (group_index (second_group n i)) known.Nothing (λ g. g) in
         let third : NameNoMadeAnchor three = plain_set two second (group_index (third_group n i)) known.Nothing (λ g. g) in
         plain_set three third (group_index (last_group n i)) known.Nothing (λ g. g)
 
-    region_plain : (n : ℕ) (region : Region) → NameNoMadeAnchor (abstract.with_region a n region).registers
+    region_plain : (n : ℕ) (region : Region) → NameNoMadeAnchor (abstract.with_region a n region).values
     region_plain n (regions.InStack i) = marks_plain a plain n i
     region_plain n regions.InBytes = plain
 
@@ -303,7 +303,7 @@ module _ {D : Type 0} (ops : Operations D) (Member : D → ℕ → Type 0) (soun
 
     pointer_stays : (to : AbstractValue D) (d : ℤ) (z : Size) (v : AbstractValue D) → Plain v → IfOk (abstract.abstract_store_pointer a to d z v) Stays
     pointer_stays (known.Stack k) d size.Double v h =
-        every Stays (check (is_group_place (k +ℤ d)) PointerStored) _ (λ u. every Stays (ok_or (index_within (k +ℤ d) 8 stack_first stack_first (pos 0)) StackBounds) _ (λ i. on_stays (abstract_with_pointer a (group_of i) v) (plain_set a.registers plain (group_index (group_of i)) v h)))
+        every Stays (check (is_group_place (k +ℤ d)) PointerStored) _ (λ u. every Stays (ok_or (index_within (k +ℤ d) 8 stack_first stack_first (pos 0)) StackBounds) _ (λ i. on_stays (abstract_with_pointer a (group_of i) v) (plain_set a.values plain (group_index (group_of i)) v h)))
     pointer_stays (known.Stack k) d size.Word v h = tt
     pointer_stays (known.Stack k) d size.Half v h = tt
     pointer_stays (known.Stack k) d size.Byte v h = tt
@@ -327,7 +327,7 @@ module _ {D : Type 0} (ops : Operations D) (Member : D → ℕ → Type 0) (soun
 
     -- ---- calls
 
-    answer_plain : (x : D) → NameNoMadeAnchor (with_answer a x).registers
+    answer_plain : (x : D) → NameNoMadeAnchor (with_answer a x).values
     answer_plain x =
         let p0 = with_plain reg.R0 (known.Scalar x) (λ h. h) in
         let p1 = plain_set _ p0 1 known.Nothing (λ h. h) in
@@ -336,7 +336,7 @@ module _ {D : Type 0} (ops : Operations D) (Member : D → ℕ → Type 0) (soun
         let p4 = plain_set _ p3 4 known.Nothing (λ h. h) in
         plain_set _ p4 5 known.Nothing (λ h. h)
 
-    out_plain : (x : D) (out : Option Room) → NameNoMadeAnchor (with_out (with_answer a x) out).registers
+    out_plain : (x : D) (out : Option Room) → NameNoMadeAnchor (with_out (with_answer a x) out).values
     out_plain x None = answer_plain x
     out_plain x (Some room) = marks_plain (with_answer a x) (answer_plain x) (record_bytes room.form) room.index
 
@@ -370,5 +370,5 @@ module _ {D : Type 0} (ops : Operations D) (Member : D → ℕ → Type 0) (soun
     accepted (Err f) answer h e = absurd cc
 
     -- a step that adds bar register to another one
-    pub step_plain : (i : Insn) → Fits i → (IsRegisterSum i → ⊥) → (answer : Next D) → abstract.abstract_step ops a i ≡ Ok answer → (branch : Branch) (state : AbsState D) → state_after answer branch ≡ Some state → NameNoMadeAnchor state.registers
+    pub step_plain : (i : Insn) → Fits i → (IsRegisterSum i → ⊥) → (answer : Next D) → abstract.abstract_step ops a i ≡ Ok answer → (branch : Branch) (state : AbsState D) → state_after answer branch ≡ Some state → NameNoMadeAnchor state.values
     step_plain i fit bar answer is = accepted (abstract.abstract_step ops a i) answer (stays i fit bar) is

@@ -151,7 +151,7 @@ module _ {D : Type 0} (ops : Operations D) (Member : D → ℕ → Type 0) (soun
   refused_alike (Err f) reason e = cc
 
   module _ (places : Places) (a : AbsState D) (s : State) (member : IsMemberAt Member Strict places a s) (reason : Reason)
-      (bounds : reason ≡ DatagramBounds → (pos s.memory.length ≡ a.proved) × NameNoMadeAnchor a.registers) where
+      (bounds : reason ≡ DatagramBounds → (pos s.memory.length ≡ a.proved) × NameNoMadeAnchor a.values) where
     -- the member itself
     stuck_itself : (i : Insn) → Fits i → abstract.abstract_step ops a i ≡ Err reason → (reason ≡ PointerArithmetic → Strays ops Member sound a s i) → IsStuckFrom s i reason
     stuck_itself i fit is strays =
@@ -196,11 +196,11 @@ module _ {D : Type 0} (ops : Operations D) (Member : D → ℕ → Type 0) (soun
       scalar_is : (m : ℕ) (v : Value) → ◌≡◌ {A = Result Value Reason} (Ok (value.Scalar m)) (Ok v) → value.Scalar m ≡ v
       scalar_is m v e = cc
 
-      imm_strays : (z : ℤ) → OperandFits (operand.Imm z) → (IsConstantSum (insn.Alu w op dst (operand.Imm z)) → NameNoMadeAnchor a.registers) → Strays ops Member sound a s (insn.Alu w op dst (operand.Imm z))
+      imm_strays : (z : ℤ) → OperandFits (operand.Imm z) → (IsConstantSum (insn.Alu w op dst (operand.Imm z)) → NameNoMadeAnchor a.values) → Strays ops Member sound a s (insn.Alu w op dst (operand.Imm z))
       imm_strays z fit plain x y u v p p' q q' =
-          strays_same ops Member sound a op w (abstract_at a.registers dst) x (known.Scalar (ops.exact (imm_word w z))) y (effects.value_at s.registers dst) u (value.Scalar (imm_word w z)) v
-          (held_known ops Member sound (abstract_at a.registers dst) x p) (ok_is ops Member sound (known.Scalar (ops.exact (imm_word w z))) y p') (held_is (effects.value_at s.registers dst) u q) (scalar_is (imm_word w z) v q')
-          (imm_by (imm_word w z) (imm_below w z fit) (abstract_at a.registers dst) (effects.value_at s.registers dst) (moves_or_not op w dst z (IsMade (abstract_at a.registers dst) → ⊥) (λ sums. plain sums (number_of dst))) (member.registers dst))
+          strays_same ops Member sound a op w (abstract_at a.values dst) x (known.Scalar (ops.exact (imm_word w z))) y (effects.value_at s.registers dst) u (value.Scalar (imm_word w z)) v
+          (held_known ops Member sound (abstract_at a.values dst) x p) (ok_is ops Member sound (known.Scalar (ops.exact (imm_word w z))) y p') (held_is (effects.value_at s.registers dst) u q) (scalar_is (imm_word w z) v q')
+          (imm_by (imm_word w z) (imm_below w z fit) (abstract_at a.values dst) (effects.value_at s.registers dst) (moves_or_not op w dst z (IsMade (abstract_at a.values dst) → ⊥) (λ sums. plain sums (number_of dst))) (member.registers dst))
 
       -- ---- a sum with a register
 
@@ -209,7 +209,7 @@ module _ {D : Type 0} (ops : Operations D) (Member : D → ℕ → Type 0) (soun
         sum = insn.Alu w op dst (operand.Reg reg)
 
         -- the step, where both registers are known
-        step_at : (x y : AbstractValue D) → abstract_at a.registers dst ≡ x → abstract_at a.registers reg ≡ y → abstract.abstract_content x ≡ Ok x → abstract.abstract_content y ≡ Ok y → abstract.abstract_step ops a sum ≡ abstract.abstract_register_write a dst (abstract.abstract_alu_result ops a op w x y)
+        step_at : (x y : AbstractValue D) → abstract_at a.values dst ≡ x → abstract_at a.values reg ≡ y → abstract.abstract_content x ≡ Ok x → abstract.abstract_content y ≡ Ok y → abstract.abstract_step ops a sum ≡ abstract.abstract_register_write a dst (abstract.abstract_alu_result ops a op w x y)
         unfolding sum
         step_at x y p q e f =
             (λ i. abstract.abstract_content (p i) >>= λ x'. abstract.abstract_content (q i) >>= λ y'. abstract.abstract_register_write a dst (abstract.abstract_alu_result ops a op w x' y'))
@@ -222,10 +222,10 @@ module _ {D : Type 0} (ops : Operations D) (Member : D → ℕ → Type 0) (soun
             ∙ (λ i. e i >>= λ u'. f i >>= λ v'. effects.register_write dst (effects.alu_result op w u' v'))
 
         -- the number of the second register is replaced by one that leads out of range
-        stuck_off : (x : AbstractValue D) (y : D) (u : Value) (n : ℕ) → abstract_at a.registers dst ≡ x → abstract_at a.registers reg ≡ known.Scalar y → (x ≡ known.Scalar y → ⊥) → effects.value_at s.registers dst ≡ u → n < 2 ^ 64
+        stuck_off : (x : AbstractValue D) (y : D) (u : Value) (n : ℕ) → abstract_at a.values dst ≡ x → abstract_at a.values reg ≡ known.Scalar y → (x ≡ known.Scalar y → ⊥) → effects.value_at s.registers dst ≡ u → n < 2 ^ 64
             → abstract.abstract_content x ≡ Ok x → effects.content_of u ≡ Ok u → abstract.abstract_alu_result ops a op w x (known.Scalar y) ≡ Err PointerArithmetic → effects.alu_result op w u (value.Scalar n) ≡ Err PointerArithmetic → abstract.abstract_step ops a sum ≡ Err reason → IsStuckFrom s sum reason
         stuck_off x y u n p q other u_is fits held held_u none strays is =
-            let apart : number_of dst ≡ number_of reg → ⊥ = λ same. other (sym p ∙ ap (λ (number : ℕ). slice_index_or a.registers number known.Nothing) same ∙ q) in
+            let apart : number_of dst ≡ number_of reg → ⊥ = λ same. other (sym p ∙ ap (λ (number : ℕ). slice_index_or a.values number known.Nothing) same ∙ q) in
             let number : IsHeld Member places s.memory.length (known.Scalar y) (effects.value_at s.registers reg) = subst (λ (value : AbstractValue D). IsValue Member Strict places s.memory.length value (effects.value_at s.registers reg)) q (member.registers reg) in
             let opened = replaced ops Member sound places a s member dst reg y ops.top number.0 n s.slot number.1 number.2 (sound.top n fits) in
             let new : State = opened.state in
@@ -240,32 +240,32 @@ module _ {D : Type 0} (ops : Operations D) (Member : D → ℕ → Type 0) (soun
             }
 
         -- no sum, or one that is accepted
-        no_stray : (x y : AbstractValue D) → abstract_at a.registers dst ≡ x → abstract_at a.registers reg ≡ y → Fits sum → ((u v : Value) → StraysBy ops Member sound a op w x y u v) → abstract.abstract_step ops a sum ≡ Err reason → IsStuckFrom s sum reason
+        no_stray : (x y : AbstractValue D) → abstract_at a.values dst ≡ x → abstract_at a.values reg ≡ y → Fits sum → ((u v : Value) → StraysBy ops Member sound a op w x y u v) → abstract.abstract_step ops a sum ≡ Err reason → IsStuckFrom s sum reason
         unfolding sum
         no_stray x y p q fit g is =
-            stuck_itself sum fit is (λ e x' y' u v p' q' f f'. strays_same ops Member sound a op w x x' y y' u u v v (sym p ∙ held_known ops Member sound (abstract_at a.registers dst) x' p') (sym q ∙ held_known ops Member sound (abstract_at a.registers reg) y' q') refl refl (g u v))
+            stuck_itself sum fit is (λ e x' y' u v p' q' f f'. strays_same ops Member sound a op w x x' y y' u u v v (sym p ∙ held_known ops Member sound (abstract_at a.values dst) x' p') (sym q ∙ held_known ops Member sound (abstract_at a.values reg) y' q') refl refl (g u v))
 
-        data_stuck : (anchor : Anchor) (k : ℤ) (y : D) (o : Option (AbstractValue D)) → abstract.data_sum a anchor op w k (ops.bounds y) ≡ o → abstract_at a.registers dst ≡ known.Data anchor k → abstract_at a.registers reg ≡ known.Scalar y → Fits sum → abstract.abstract_step ops a sum ≡ Err reason → IsStuckFrom s sum reason
+        data_stuck : (anchor : Anchor) (k : ℤ) (y : D) (o : Option (AbstractValue D)) → abstract.data_sum a anchor op w k (ops.bounds y) ≡ o → abstract_at a.values dst ≡ known.Data anchor k → abstract_at a.values reg ≡ known.Scalar y → Fits sum → abstract.abstract_step ops a sum ≡ Err reason → IsStuckFrom s sum reason
         data_stuck anchor k y None e p q fit is =
             let place : ℤ = place_of places anchor +ℤ k in
             let held : IsHeld Member places s.memory.length (known.Data anchor k) (effects.value_at s.registers dst) = subst (λ (x : AbstractValue D). IsValue Member Strict places s.memory.length x (effects.value_at s.registers dst)) p (member.registers dst) in
             stuck_off (known.Data anchor k) y (value.Data place) (stray_if (is_near place)) p q (λ f. absurd cc) held.2 (stray_fits (is_near place)) refl refl (ap (λ (o : Option (AbstractValue D)). ok_or o PointerArithmetic) e) (data_strays op w place) is
         data_stuck anchor k y (Some v) e p q fit is = no_stray (known.Data anchor k) (known.Scalar y) p q fit (λ u u' none. absurd (no_value v (sym e ∙ none))) is
 
-        stack_stuck : (k : ℤ) (y : D) (option : Option ℕ) → abstract.single_of ops y ≡ option → abstract_at a.registers dst ≡ known.Stack k → abstract_at a.registers reg ≡ known.Scalar y → Fits sum → abstract.abstract_step ops a sum ≡ Err reason → IsStuckFrom s sum reason
+        stack_stuck : (k : ℤ) (y : D) (option : Option ℕ) → abstract.single_of ops y ≡ option → abstract_at a.values dst ≡ known.Stack k → abstract_at a.values reg ≡ known.Scalar y → Fits sum → abstract.abstract_step ops a sum ≡ Err reason → IsStuckFrom s sum reason
         stack_stuck k y None e p q fit is =
             let held : IsHeld Member places s.memory.length (known.Stack k) (effects.value_at s.registers dst) = subst (λ (x : AbstractValue D). IsValue Member Strict places s.memory.length x (effects.value_at s.registers dst)) p (member.registers dst) in
             stuck_off (known.Stack k) y (value.Stack k) (stray_if (is_near k)) p q (λ f. absurd cc) held.2 (stray_fits (is_near k)) refl refl (ap (λ (option : Option ℕ). abstract.abstract_pointer_to known.Stack (abstract.moved_by op w k option)) e) (stack_strays op w k) is
         stack_stuck k y (Some n) e p q fit is = no_stray (known.Stack k) (known.Scalar y) p q fit (λ u v none. absurd (let bad : Some n ≡ None = sym e ∙ none in cc)) is
 
-        sum_stuck : (x y : AbstractValue D) → abstract_at a.registers dst ≡ x → abstract_at a.registers reg ≡ y → Fits sum → abstract.abstract_step ops a sum ≡ Err reason → IsStuckFrom s sum reason
+        sum_stuck : (x y : AbstractValue D) → abstract_at a.values dst ≡ x → abstract_at a.values reg ≡ y → Fits sum → abstract.abstract_step ops a sum ≡ Err reason → IsStuckFrom s sum reason
         sum_stuck (known.Data anchor k) (known.Scalar y) p q fit is = data_stuck anchor k y (abstract.data_sum a anchor op w k (ops.bounds y)) refl p q fit is
         sum_stuck (known.Stack k) (known.Scalar y) p q fit is = stack_stuck k y (abstract.single_of ops y) refl p q fit is
         sum_stuck x y p q fit is = no_stray x y p q fit (λ u v. tt) is
 
-    stuck_from : (i : Insn) → Fits i → abstract.abstract_step ops a i ≡ Err reason → (IsAboutPlaces reason i → NameNoMadeAnchor a.registers) → IsStuckFrom s i reason
+    stuck_from : (i : Insn) → Fits i → abstract.abstract_step ops a i ≡ Err reason → (IsAboutPlaces reason i → NameNoMadeAnchor a.values) → IsStuckFrom s i reason
     unfolding sum
-    stuck_from (insn.Alu w op dst (operand.Reg r)) fit is plain = sum_stuck w op dst r (abstract_at a.registers dst) (abstract_at a.registers r) refl refl fit is
+    stuck_from (insn.Alu w op dst (operand.Reg r)) fit is plain = sum_stuck w op dst r (abstract_at a.values dst) (abstract_at a.values r) refl refl fit is
     stuck_from (insn.Alu w op dst (operand.Imm n)) fit is plain = stuck_itself (insn.Alu w op dst (operand.Imm n)) fit is (λ e. imm_strays w op dst n fit (λ sums. plain (subst (λ (r : Reason). IsAboutPlaces r (insn.Alu w op dst (operand.Imm n))) (sym e) sums)))
     stuck_from i fit is plain = stuck_itself i fit is (λ e. tt)
 
@@ -273,5 +273,5 @@ module _ {D : Type 0} (ops : Operations D) (Member : D → ℕ → Type 0) (soun
   -- more bytes than are proved, and no register names an anchor that was made; where a constant is added to a pointer, no
   -- register does either.
   pub refusal_is_real : (places : Places) (a : AbsState D) (s : State) → IsMemberAt Member Strict places a s → (i : Insn) → Fits i → (reason : Reason) → abstract.abstract_step ops a i ≡ Err reason
-      → (IsAboutPlaces reason i → NameNoMadeAnchor a.registers) → (reason ≡ DatagramBounds → pos s.memory.length ≡ a.proved) → IsStuckFrom s i reason
+      → (IsAboutPlaces reason i → NameNoMadeAnchor a.values) → (reason ≡ DatagramBounds → pos s.memory.length ≡ a.proved) → IsStuckFrom s i reason
   refusal_is_real places a s member i fit reason is plain size = stuck_from places a s member reason (λ e. (size e, plain (subst (λ (r : Reason). IsAboutPlaces r i) (sym e) tt))) i fit is plain

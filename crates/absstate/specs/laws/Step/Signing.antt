@@ -249,7 +249,7 @@ module _ {D : Type 0} (ops : Operations D) (Member : D → ℕ → Type 0) (soun
   covered_signature e =
       let values = values_of ops a b e in
       within_by_parts (state_signature ops a) (state_signature ops b)
-      (values_within 0 (take REGISTERS a.registers) (take REGISTERS b.registers) (covered_front ops a b REGISTERS a.registers b.registers values))
-      (values_within REGISTERS (drop REGISTERS a.registers) (drop REGISTERS b.registers) (covered_rest ops a b REGISTERS a.registers b.registers values))
+      (values_within 0 (take REGISTERS a.values) (take REGISTERS b.values) (covered_front ops a b REGISTERS a.values b.values values))
+      (values_within REGISTERS (drop REGISTERS a.values) (drop REGISTERS b.values) (covered_rest ops a b REGISTERS a.values b.values values))
       (covered_marks 0 (words_of a.marks.cells) (words_of b.marks.cells) refl (covered_within ops a b e))
-      (values_ranked a.registers b.registers values) (links_within a.registers b.registers (linked_alike ops a b e))
+      (values_ranked a.values b.values values) (links_within a.values b.values (linked_alike ops a b e))

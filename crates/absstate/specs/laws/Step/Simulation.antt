@@ -89,7 +89,7 @@ module _ {D : Type 0} (ops : Operations D) (Member : D → ℕ → Type 0) (soun
   -- a result, with the anchors at places at which those that registers name stay
   pub record IsResultAnew (places : Places) (size : ℕ) (a : AbsState D) (x : AbstractValue D) (v : Value) : Type 0 where
     pub more : Places
-    pub extends : Extends (greatest_id a.registers) places more
+    pub extends : Extends (greatest_id a.values) places more
     pub result : IsResult Member more size x v
 
   -- the effect of an instruction, and the abstract state after it
@@ -130,7 +130,7 @@ module _ {D : Type 0} (ops : Operations D) (Member : D → ℕ → Type 0) (soun
         (and_then claimed (IsResultAnew places s.memory.length a) (IsEffectOf mode places a s i) r r' _ _ agree (λ k v p q result. (k, refl, result, past)))
 
     anew : (r : Result (AbstractValue D) Reason) (r' : Result Value Reason) → Agree claimed (IsResult Member places s.memory.length) r r' → Agree claimed (IsResultAnew places s.memory.length a) r r'
-    anew (Ok k) (Ok v) h = record { more = places; extends = extends_itself (greatest_id a.registers) places; result = h }
+    anew (Ok k) (Ok v) h = record { more = places; extends = extends_itself (greatest_id a.values) places; result = h }
     anew (Ok k) (Err e) h = absurd h
     anew (Err e) (Ok v) h = h
     anew (Err e) (Err f) h = h
@@ -181,14 +181,14 @@ module _ {D : Type 0} (ops : Operations D) (Member : D → ℕ → Type 0) (soun
 
     -- a pointer that a register holds reaches no farther than the registers do
     abbrev IsWithin : AbstractValue D → Type 0
-    IsWithin x = reach_at x ≤ℤ reach_of a.registers
+    IsWithin x = reach_at x ≤ℤ reach_of a.values
 
     read_within : (reg : Reg) (x : AbstractValue D) → abstract.abstract_register_value a reg ≡ Ok x → IsWithin x
-    read_within reg x p = subst IsWithin (held_known ops Member sound (abstract_at a.registers reg) x p) (reach_at_most a.registers (number_of reg))
+    read_within reg x p = subst IsWithin (held_known ops Member sound (abstract_at a.values reg) x p) (reach_at_most a.values (number_of reg))
 
     operand_within : (w : Width) (o : Operand) (y : AbstractValue D) → abstract.operand_abstract ops w a o ≡ Ok y → IsWithin y
     operand_within w (operand.Reg r) y p = read_within r y p
-    operand_within w (operand.Imm n) y p = subst IsWithin (ok_is ops Member sound (known.Scalar (ops.exact (imm_word w n))) y p) (reach_positive a.registers)
+    operand_within w (operand.Imm n) y p = subst IsWithin (ok_is ops Member sound (known.Scalar (ops.exact (imm_word w n))) y p) (reach_positive a.values)
 
     made_enough : (id : ℕ) (low high proved : ℤ) (k : ℤ) (b : Option Bound) → IsNearBound k b → IsAnchorPlace s.memory.length low high proved (places id) → ((high +ℤ k) +ℤ pos 1) ≤ℤ pos s.memory.length → IsLeast (places id) (abstract.least_of b) s.memory.length
     made_enough id low high proved k None near is le = tt
@@ -238,7 +238,7 @@ module _ {D : Type 0} (ops : Operations D) (Member : D → ℕ → Type 0) (soun
         (λ y v p' q' held_y. fork_held w condition dst o offset x y u v (read_within dst x p) (operand_within w o y p') held_x held_y q q'))
 
     plain_at : (i : Insn) → Claims i → (reg : Reg) (x : AbstractValue D) → abstract.abstract_register_value a reg ≡ Ok x → claimed DatagramBounds → IsMade x → ⊥
-    plain_at i claims reg x p c is = claims.plain c reg (subst IsMade (sym (held_known ops Member sound (abstract_at a.registers reg) x p)) is)
+    plain_at i claims reg x p c is = claims.plain c reg (subst IsMade (sym (held_known ops Member sound (abstract_at a.values reg) x p)) is)
 
     loads_agree : (i : Insn) (known_of : AbstractValue D → Result (AbstractValue D) Reason) (loaded : Value → Result Value Reason) (dst base : Reg) → GoesPast i → Claims i
         → ((x : AbstractValue D) → (claimed DatagramBounds → IsMade x → ⊥) → (m : ℕ) → IsNumberOf Member places s.memory.length x m → Agree claimed (IsResult Member places s.memory.length) (known_of x) (loaded (concrete_value places x m)))

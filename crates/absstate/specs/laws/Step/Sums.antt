@@ -117,7 +117,7 @@ spreads_of op w b low high least greatest n p q fits side e f = absurd cc
 -- the machine's place after a sum, and the anchors' places
 pub record IsSum {D : Type 0} (places : Places) (size : ℕ) (a : AbsState D) (op : AluOp) (w : Width) (from : ℤ) (n : ℕ) (anchor : Anchor) (k : ℤ) : Type 0 where
   pub more : Places
-  pub extends : Extends (greatest_id a.registers) places more
+  pub extends : Extends (greatest_id a.values) places more
   pub anchored : IsAnchored more size anchor
   pub moved : moved_place op w from n ≡ Some (place_of more anchor +ℤ k)
 
@@ -145,12 +145,12 @@ module _ {D : Type 0} (places : Places) (size : ℕ) (a : AbsState D) (reaches :
       let parts = with_both_some (lowest op w (low_of anchor +ℤ k) b) (highest op w (high_of anchor +ℤ k) b) _ (Data made l) e in
       let least : ℤ = parts.0 in
       let greatest : ℤ = parts.1 in
-      let tests = if_some (is_one_sided b && int_le (pos (suc (greatest_id a.registers))) (pos 4294967295)) (Data (made_anchor a anchor least greatest) (pos 0)) (Data made l) parts.4 in
-      let one_sided = first_of_and (is_one_sided b) (int_le (pos (suc (greatest_id a.registers))) (pos 4294967295)) tests.0 in
+      let tests = if_some (is_one_sided b && int_le (pos (suc (greatest_id a.values))) (pos 4294967295)) (Data (made_anchor a anchor least greatest) (pos 0)) (Data made l) parts.4 in
+      let one_sided = first_of_and (is_one_sided b) (int_le (pos (suc (greatest_id a.values))) (pos 4294967295)) tests.0 in
       let s = spreads_of op w b (low_of anchor +ℤ k) (high_of anchor +ℤ k) least greatest n p q fits one_sided parts.2 parts.3 in
       let at = place_is places size a anchor reaches is in
       let to : ℤ = (place_of places anchor +ℤ k) +ℤ s.by in
-      let id : ℕ = suc (greatest_id a.registers) in
+      let id : ℕ = suc (greatest_id a.values) in
       let more : Places = with_place places id to in
       let more_is : more id ≡ to = with_place_at places id to in
       let sum = sum_place (low_of anchor) (high_of anchor) (proved_of a anchor) (place_of places anchor) k least greatest s.by_low s.by s.by_high to size at s.below s.above s.least_is s.greatest_is s.greatest_near refl in
@@ -162,7 +162,7 @@ module _ {D : Type 0} (places : Places) (size : ℕ) (a : AbsState D) (reaches :
       (subst (λ (z : ℤ). IsSum places size a op w (place_of places anchor +ℤ k) n (made_anchor a anchor least greatest) z) same.1
       (record {
         more = more;
-        extends = with_place_extends (greatest_id a.registers) places to;
+        extends = with_place_extends (greatest_id a.values) places to;
         anchored = subst (IsAnchorPlace size least greatest (proved_within (proved_of a anchor -ℤ (greatest -ℤ high_of anchor)))) (sym more_is) sum;
         moved = moved ∙ ap (λ (z : ℤ). Some z) (omega (arith, ints, more_is));
       }))
@@ -177,7 +177,7 @@ module _ {D : Type 0} (places : Places) (size : ℕ) (a : AbsState D) (reaches :
       let parts : (First ≡ made) × (z ≡ l) = anchor_is First made z l (data_is f) in
       let at : moved_place op w (pos 0 +ℤ k) n ≡ moved_place op w k m = (λ i. moved_place op w (zero_less k i) (same i)) in
       subst (λ (x : Anchor). IsSum places size a op w (pos 0 +ℤ k) n x l) parts.0
-      (record { more = places; extends = extends_itself (greatest_id a.registers) places; anchored = tt; moved = at ∙ e ∙ ap (λ (y : ℤ). Some y) (parts.1 ∙ more_zero l) }) where
+      (record { more = places; extends = extends_itself (greatest_id a.values) places; anchored = tt; moved = at ∙ e ∙ ap (λ (y : ℤ). Some y) (parts.1 ∙ more_zero l) }) where
         data_is : ◌≡◌ {A = Option (AbstractValue D)} (Some (Data First z)) (Some (Data made l)) → ◌≡◌ {A = AbstractValue D} (Data First z) (Data made l)
         data_is g = cc
 
@@ -204,7 +204,7 @@ module _ {D : Type 0} (places : Places) (size : ℕ) (a : AbsState D) (reaches :
       let to_is : to ≡ (places id +ℤ z) = omega (arith, ints, lowest_near.same, offset) in
       let moved : moved_place op w (places id +ℤ k) n ≡ Some to = ap (moved_place op w (places id +ℤ k)) same ∙ s.at (places id +ℤ k) ∙ near_from to (omega (arith, ints, lowest_near.low, is.least)) (omega (arith, ints, highest_near.high, is.greatest)) in
       subst (λ (x : Anchor). IsSum places size a op w (places id +ℤ k) n x l) parts.0
-      (record { more = places; extends = extends_itself (greatest_id a.registers) places; anchored = is; moved = moved ∙ ap (λ (y : ℤ). Some y) (to_is ∙ ap (λ (y : ℤ). places id +ℤ y) parts.1) }) where
+      (record { more = places; extends = extends_itself (greatest_id a.values) places; anchored = is; moved = moved ∙ ap (λ (y : ℤ). Some y) (to_is ∙ ap (λ (y : ℤ). places id +ℤ y) parts.1) }) where
         data_is : ◌≡◌ {A = Option (AbstractValue D)} (Some (Data (Made id low high proved) z)) (Some (Data made l)) → ◌≡◌ {A = AbstractValue D} (Data (Made id low high proved) z) (Data made l)
         data_is g = cc
 
@@ -231,7 +231,7 @@ mapped_other anchor (Some z) v other e = let is : ◌≡◌ {A = AbstractValue _
 made_other : {D : Type 0} (a : AbsState D) (anchor : Anchor) (op : AluOp) (w : Width) (k : ℤ) (b : Bounds) (v : AbstractValue D) → IsOther v → made_sum a anchor op w k b ≡ Some v → ⊥
 made_other a anchor op w k b v other e =
     let parts = with_both_some (lowest op w (low_of anchor +ℤ k) b) (highest op w (high_of anchor +ℤ k) b) _ v e in
-    let tests = if_some (is_one_sided b && int_le (pos (suc (greatest_id a.registers))) (pos 4294967295)) (Data (made_anchor a anchor parts.0 parts.1) (pos 0)) v parts.4 in
+    let tests = if_some (is_one_sided b && int_le (pos (suc (greatest_id a.values))) (pos 4294967295)) (Data (made_anchor a anchor parts.0 parts.1) (pos 0)) v parts.4 in
     subst IsOther (sym tests.1) other
 
 pub no_other : {D : Type 0} (a : AbsState D) (anchor : Anchor) (op : AluOp) (w : Width) (k : ℤ) (b : Bounds) (v : AbstractValue D) → IsOther v → data_sum a anchor op w k b ≡ Some v → ⊥

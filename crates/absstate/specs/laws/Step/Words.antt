@@ -117,7 +117,7 @@ words_within ms os (i ∷ places) e =
 
 pub covered_within : {D : Type 0} (ops : Operations D) (a b : AbsState D) → covers ops a b ≡ true → are_within (words_of a.marks.cells) (words_of b.marks.cells) ≡ true
 covered_within ops a b e =
-    let memory = rest_of_and (covers_values ops a b a.registers b.registers && share_alike a.registers b.registers) (int_le a.proved b.proved && covers_marks a.marks.cells b.marks.cells) e in
+    let memory = rest_of_and (covers_values ops a b a.values b.values && share_alike a.values b.values) (int_le a.proved b.proved && covers_marks a.marks.cells b.marks.cells) e in
     words_within a.marks.cells b.marks.cells (0 ∷ 1 ∷ 2 ∷ 3 ∷ 4 ∷ 5 ∷ 6 ∷ 7 ∷ []) (rest_of_and (int_le a.proved b.proved) (covers_marks a.marks.cells b.marks.cells) memory)
 
 -- ---- marks from words

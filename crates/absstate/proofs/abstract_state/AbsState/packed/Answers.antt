@@ -13,13 +13,13 @@ invariant_of-result g c =
 pub returns : goal.returns
 returns g c =
     let proved : to_z w64 (of_z w64 c.proved_of.result) ≡ c.args.self.now.proved = search rules in
-    let whole : c.args.self.now.registers ≡ c.eleven.result ++ c.split_at.result.1.now =
-    sym (take-append-drop 11 c.args.self.now.registers) ∙ ap (λ (xs : List (AbstractValue g.row.D.Denot)). xs ++ drop 11 c.args.self.now.registers) front ∙ ap (λ (xs : List (AbstractValue g.row.D.Denot)). c.eleven.result ++ xs) back in
+    let whole : c.args.self.now.values ≡ c.eleven.result ++ c.split_at.result.1.now =
+    sym (take-append-drop 11 c.args.self.now.values) ∙ ap (λ (xs : List (AbstractValue g.row.D.Denot)). xs ++ drop 11 c.args.self.now.values) front ∙ ap (λ (xs : List (AbstractValue g.row.D.Denot)). c.eleven.result ++ xs) back in
     ap (λ (n : ℤ). unpacked c.eleven.result (joined c.in_ok-chunks.chunks.items) c.words.result n) proved
     ∙ whole_state c.args.self.now c.eleven.result c.split_at.result.1.now (joined c.in_ok-chunks.chunks.items) c.words.result whole c.in_ok-chunks.ensures.0 c.words.ensures c.cells-marks.ensures.count
   where
-    front : take 11 c.args.self.now.registers ≡ c.eleven.result
+    front : take 11 c.args.self.now.values ≡ c.eleven.result
     front = search rules
 
-    back : drop 11 c.args.self.now.registers ≡ c.split_at.result.1.now
+    back : drop 11 c.args.self.now.values ≡ c.split_at.result.1.now
     back = search rules

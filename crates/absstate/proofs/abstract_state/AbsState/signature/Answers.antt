@@ -22,8 +22,8 @@ all_links values n all = ap (links_among values) all
 
 pub returns : goal.returns
 returns g c =
-    let values = c.registers_of-values.ensures.values in
-    let count : length c.registers_of-values.result.now ≡ VALUES = ap (λ (values : List (AbstractValue _)). length values) values ∙ c.registers_of-values.ensures.count in
+    let values = c.values_of-values.ensures.values in
+    let count : length c.values_of-values.result.now ≡ VALUES = ap (λ (values : List (AbstractValue _)). length values) values ∙ c.values_of-values.ensures.count in
     of_parts
     (c.value_bits.ensures ∙ ap (value_bits g.D.Domain.ops 0 c.args.self.now.proved) (c.split_at.ensures.front ∙ ap (take REGISTERS) values))
     (c.value_bits-2.ensures ∙ ap (value_bits g.D.Domain.ops REGISTERS c.args.self.now.proved) (c.split_at.ensures.back ∙ ap (drop REGISTERS) values))

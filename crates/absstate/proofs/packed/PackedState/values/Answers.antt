@@ -10,4 +10,4 @@ returns g c =
     let count : length c.self.inside.registers ≡ 11 = search rules in
     laid_out c.self.inside.registers (joined c.self.inside.chunks.items) c.put.new.values c.put_chunks.new.values count c.self.invariant.0 c.put.ensures
     (c.put_chunks.ensures ∙ ap (λ (xs : List (List (AbstractValue g.row.D.Denot))). take 11 c.put.new.values ++ joined xs ++ drop (11 + length (joined xs)) c.put.new.values) c.deref.ensures.value)
-    ∙ ap (λ (a : AbsState g.row.D.Denot). a.registers) c.self.view_is
+    ∙ ap (λ (a : AbsState g.row.D.Denot). a.values) c.self.view_is
