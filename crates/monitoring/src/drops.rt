@@ -86,8 +86,8 @@ impl Drops {
         str::from_utf8(&self.text).ok()
     }
 
-    /// Looks at the counter of IPv4. It takes no memory, and its work doesn't depend on how many sockets there are.
-    pub(crate) fn look_at_ipv4<R: Files>(&mut self, rt: &R) {
+    /// Updates the counter of IPv4. It takes no memory, and its work doesn't depend on how many sockets there are.
+    pub(crate) fn update_ipv4<R: Files>(&mut self, rt: &R) {
         let dropped = match self.read(rt, COUNTERS) {
             Some(text) => dropped_in(text),
             None => None,
@@ -95,8 +95,8 @@ impl Drops {
         self.ipv4 = dropped;
     }
 
-    /// Looks at the counter of IPv6, as [`Drops::look_at_ipv4`] does.
-    pub(crate) fn look_at_ipv6<R: Files>(&mut self, rt: &R) {
+    /// Updates the counter of IPv6, as [`Drops::update_ipv4`] does.
+    pub(crate) fn update_ipv6<R: Files>(&mut self, rt: &R) {
         let dropped = match self.read(rt, COUNTERS6) {
             Some(text) => dropped6_in(text),
             None => None,
@@ -104,10 +104,10 @@ impl Drops {
         self.ipv6 = dropped;
     }
 
-    /// Looks at both counters.
+    /// Updates both counters.
     pub(crate) fn update<R: Files>(&mut self, rt: &R) {
-        self.look_at_ipv4(rt);
-        self.look_at_ipv6(rt);
+        self.update_ipv4(rt);
+        self.update_ipv6(rt);
     }
 
     /// Returns how many datagrams the system had dropped since the server began, when that was last read: those

@@ -222,9 +222,9 @@ impl<'a> Reports<'a> {
     /// Does one piece of what is due of the log, if there is one: prints some of its lines; once a period the
     /// allocations that have ended are added, and then it is printed how many lines were left out. Returns whether
     /// there was a piece.
-    pub fn tend_log<E: Write>(&mut self, err: &mut E, of: Observed<'_>, now: Duration) -> bool {
+    pub fn do_log_piece<E: Write>(&mut self, err: &mut E, of: Observed<'_>, now: Duration) -> bool {
         match &mut self.log {
-            Some(log) => log.tend(err, of.tables, of.moment, now),
+            Some(log) => log.do_piece(err, of.tables, of.moment, now),
             None => false,
         }
     }
@@ -252,11 +252,11 @@ impl<'a> Reports<'a> {
             Report::Faults => self.print_faults(err, of.counters),
             Report::Shadows => print_shadows(err, of.shadows),
             Report::Counters => {
-                self.drops.look_at_ipv4(rt);
+                self.drops.update_ipv4(rt);
                 self.piece = Some(Piece::CountersDrops);
             }
             Report::Metrics => {
-                self.drops.look_at_ipv4(rt);
+                self.drops.update_ipv4(rt);
                 self.piece = Some(Piece::MetricsDrops);
             }
         }
@@ -282,7 +282,7 @@ impl<'a> Reports<'a> {
 
     /// Does a piece of the report that has begun, or begins one that is due: prints faults, counters and how shadows
     /// compare, and writes metrics. Returns whether there was one.
-    pub fn tend<R: Files, E: Write>(
+    pub fn do_piece<R: Files, E: Write>(
         &mut self,
         rt: &R,
         err: &mut E,
@@ -294,7 +294,7 @@ impl<'a> Reports<'a> {
         };
         self.piece = piece.next();
         match piece {
-            Piece::CountersDrops | Piece::MetricsDrops => self.drops.look_at_ipv6(rt),
+            Piece::CountersDrops | Piece::MetricsDrops => self.drops.update_ipv6(rt),
             Piece::Counters => self.print_counters(err, of),
             Piece::Text => self.make_metrics(of),
             Piece::File => self.write_metrics(rt, err),

@@ -402,7 +402,7 @@ impl ServerLog {
 
     /// Does one piece of what is due, and returns whether there was one: prints some lines; where a period is over,
     /// ends what the tables don't have any more, or begins the next period.
-    pub fn tend<E: Write>(
+    pub fn do_piece<E: Write>(
         &mut self,
         err: &mut E,
         tables: &Tables,

@@ -1,7 +1,7 @@
 //! What a server does once a second, in pieces.
 
 /// A piece of what is done once a second, beside datagrams. Each has a turn of its own, in this order.
-/// See docs/DECISIONS.md, "What is looked at once a second".
+/// See docs/DECISIONS.md, "What is read once a second".
 #[derive(Clone, Copy)]
 pub(crate) enum Chore {
     /// To look at the system's clock.

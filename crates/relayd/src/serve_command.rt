@@ -86,7 +86,7 @@ pub(crate) struct Server<'a> {
     /// Whether several datagrams had come at the endpoint that was served last.
     pub(crate) is_busy: bool,
     /// Whether something that was due has been done since the last turns, so that more may be due.
-    pub(crate) is_tending: bool,
+    pub(crate) has_due_work: bool,
 }
 
 /// What a server waits with. Its memory is taken before the server listens.
@@ -138,7 +138,11 @@ fn ends_of(contents: Contents<'_>) -> (EndReason, RecordEnd) {
 }
 
 /// Looks at the files of the programs of both sides.
-fn look_at_both<R: Files + AllocGlobal, E: Write>(rt: &R, err: &mut E, sides: &mut Sides<'_>) {
+fn load_both_if_changed<R: Files + AllocGlobal, E: Write>(
+    rt: &R,
+    err: &mut E,
+    sides: &mut Sides<'_>,
+) {
     sides.load_client_if_changed(rt, err);
     sides.load_peer_if_changed(rt, err);
 }
@@ -251,7 +255,7 @@ impl<'a> Server<'a> {
     }
 
     /// Lets names expire by the system's clock where that was set, and says by how much.
-    fn look_at_clock<R: Clock, E: Write>(&mut self, rt: &R, err: &mut E) {
+    fn read_clock<R: Clock, E: Write>(&mut self, rt: &R, err: &mut E) {
         let Some(clock) = &mut self.clock else {
             return;
         };
@@ -309,10 +313,10 @@ impl<'a> Server<'a> {
         };
         self.chore = chore.next(self.reread.len());
         match chore {
-            Chore::Clock => self.look_at_clock(rt, err),
+            Chore::Clock => self.read_clock(rt, err),
             Chore::Sockets(first) => self.close_own_sockets(rt, first),
-            Chore::ProgramFiles => look_at_both(rt, err, &mut self.sides),
-            Chore::ShadowFiles => look_at_both(rt, err, &mut self.shadows),
+            Chore::ProgramFiles => load_both_if_changed(rt, err, &mut self.sides),
+            Chore::ShadowFiles => load_both_if_changed(rt, err, &mut self.shadows),
             Chore::Ends => self.log_ends(rt, EndReason::Expired),
             Chore::Reread(index) => self.reread_file(rt, err, index),
         }
@@ -322,13 +326,13 @@ impl<'a> Server<'a> {
     /// Does one piece of the log, if something of it is due at a time. Returns whether it was.
     fn print_log<E: Write>(&mut self, err: &mut E, now: Duration) -> bool {
         let of = observed(&self.wire, &self.relay, self.moments.at(now));
-        self.reports.tend_log(err, of, now)
+        self.reports.do_log_piece(err, of, now)
     }
 
     /// Does one piece of the reports that are due at a time, if some are. Returns whether one was.
     fn report<R: Files, E: Write>(&mut self, rt: &R, err: &mut E, now: Duration) -> bool {
         let of = observed(&self.wire, &self.relay, self.moments.at(now));
-        self.reports.tend(rt, err, of, now)
+        self.reports.do_piece(rt, err, of, now)
     }
 
     /// Gives some new clients sockets of their own, which a poll reports. Returns whether there were some; without a
@@ -342,8 +346,8 @@ impl<'a> Server<'a> {
 
     /// Does one piece of what is due at a time, of the next kind of which something is, and notes whether there was
     /// one. New clients get sockets of their own where a poll is there to report them.
-    /// See docs/DECISIONS.md, "What is looked at once a second".
-    fn tend<'b, R: Files + Net + Clock + AllocGlobal, E: Write>(
+    /// See docs/DECISIONS.md, "What is read once a second".
+    fn do_due_work<'b, R: Files + Net + Clock + AllocGlobal, E: Write>(
         &'b mut self,
         rt: &'b R,
         err: &'b mut E,
@@ -362,15 +366,19 @@ impl<'a> Server<'a> {
             now,
         };
         let done = do_next(&mut work, last);
-        self.is_tending = done.is_some();
+        self.has_due_work = done.is_some();
         self.duty = done.unwrap_or(last);
     }
 
     /// Does what is due, with no turns between its pieces.
-    fn tend_whole<R: Files + Net + Clock + AllocGlobal, E: Write>(&mut self, rt: &R, err: &mut E) {
+    fn finish_due_work<R: Files + Net + Clock + AllocGlobal, E: Write>(
+        &mut self,
+        rt: &R,
+        err: &mut E,
+    ) {
         for _ in 0..PIECES {
-            self.tend(rt, err, None, elapsed(rt));
-            if !self.is_tending {
+            self.do_due_work(rt, err, None, elapsed(rt));
+            if !self.has_due_work {
                 return;
             }
         }
@@ -439,7 +447,7 @@ impl<'a> Server<'a> {
         for _ in 0..rounds {
             self.renew_due_nonce(elapsed(rt));
             self.round(rt);
-            self.tend_whole(rt, err);
+            self.finish_due_work(rt, err);
         }
         self.wire.watch.flush(err);
         let of = observed(&self.wire, &self.relay, moment(rt, &self.moments));
@@ -486,7 +494,7 @@ impl<'a> Server<'a> {
         mut waiting: Waiting,
     ) -> Result<(), CommandError<'static>> {
         for _ in 0..u64::MAX {
-            let is_idle = !waiting.schedule.has_ready() && !self.is_tending;
+            let is_idle = !waiting.schedule.has_ready() && !self.has_due_work;
             let wait = if is_idle {
                 self.longest_wait()
             } else {
@@ -501,7 +509,7 @@ impl<'a> Server<'a> {
                 rt,
             };
             serve_round(&mut endpoints, &waiting.reports, &mut waiting.schedule);
-            self.tend(rt, err, Some(&waiting.poll), now);
+            self.do_due_work(rt, err, Some(&waiting.poll), now);
         }
         Ok(())
     }

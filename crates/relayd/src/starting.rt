@@ -351,7 +351,7 @@ fn server_of<'a, R: Clock + AllocGlobal>(
         duty: Duty::Programs,
         reports: parts.reports,
         is_busy: false,
-        is_tending: false,
+        has_due_work: false,
     })
 }
 
