@@ -10,9 +10,6 @@ use Rattle.addresses.specs.laws.AddressOrder.{order_by_parts-total, order_by_par
 use Rattle.tables.specs.Search.{AreAscending, put_row}
 use Rattle.tables.proofs.Searches.{AllPairs-put_row}
 
-less_differs : Less ≡ Equal → ⊥
-less_differs e = absurd (both_ways false refl (ap is_eq e))
-
 module _ {Row K : Type 0} {R : K → K → Ordering} (o : IsTotalOrder R) (key : Row → K) where
   abbrev pub Ascending : List Row → Type 0
   Ascending rows = AllPairs (λ a b. R (key a) (key b) ≡ Less) rows
@@ -25,7 +22,7 @@ module _ {Row K : Type 0} {R : K → K → Ordering} (o : IsTotalOrder R) (key :
   less_back a b e = IsTotalOrder.antisymm o b a ∙ ap ordering_reverse e
 
   less_differ : (a b : K) → R a b ≡ Less → a ≢ b
-  less_differ a b e s = less_differs (sym e ∙ subst (λ (c : K). R a c ≡ Equal) s (tied_itself o a))
+  less_differ a b e s = both_ways (is_eq (R a b)) (ap is_eq e) (ap is_eq (subst (λ (c : K). R a c ≡ Equal) s (tied_itself o a)))
 
   above_by : (a b k : K) (r : Ordering) → R a b ≡ Less → R a k ≡ r → is_lt r ≡ false → is_gt (R b k) ≡ true
   above_by a b k Less e is h = absurd (both_ways true h refl)

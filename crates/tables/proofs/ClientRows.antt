@@ -1,20 +1,19 @@
 -- The clients of what is stored: looked up, and as slots are swept and filled.
-use Rattle.std.proofs.Common.{◌≡◌, ◌≢◌, ℕ, zero, suc, ◌<◌, ◌≤◌, Bool, true, false, List, [], ◌∷◌, map, filter, find, length, get_or, set, slice_get, nat_lt, Option, Some, None, is_some, option_map, option_and_then, All, Ordering, Equal, sym, refl, ap, ◌∙◌, subst, inl, inr, arith, is_eq, eqb, ◌||◌}
-use Rattle.std.specs.Cmp.{tied_itself}
-use Rattle.std.specs.List.{list_any}
+use Rattle.std.proofs.Common.{◌≡◌, ◌≢◌, ℕ, zero, suc, ◌<◌, ◌≤◌, Bool, true, false, List, [], ◌∷◌, map, filter, find, length, get_or, set, nat_lt, Option, Some, None, is_some, option_and_then, All, Ordering, sym, refl, ap, ◌∙◌, subst, inl, inr, arith, is_eq, eqb}
 use Rattle.std.specs.Option.{option_flatten}
 use Rattle.std.proofs.lemmas.Bool.{eqb-true, ne_eqb, cases_Bool, cases_eq, cond-true, cond-false, both_ways, false_from_ne_true}
-use Rattle.std.proofs.lemmas.Option.{none-some, same_Some, slice_get-map}
+use Rattle.std.proofs.lemmas.Option.{none-some, same_Some}
 use Rattle.std.proofs.lemmas.List.{map-set, length-map, length-set, get_or-map}
-use Rattle.std.proofs.lemmas.List.Elements.{All-cons, All-tail, All-map, All-filter, filter_passes}
+use Rattle.std.proofs.lemmas.List.Elements.{All-cons, All-tail, All-map, All-filter, All-contains, filter_passes}
 use Rattle.std.proofs.lemmas.Map.Keys.{IsDistinct-from_apart}
 use Rattle.std.proofs.lemmas.Map.Steps.{length-le_from_distinct_below}
+use Rattle.std.proofs.lemmas.Map.Views.{Contains-from_any}
 use Rattle.addresses.specs.declared.address.Addr.{Addr}
 use Rattle.addresses.specs.declared.address.Addr.TheVariants.{V4}
 use Rattle.addresses.specs.AddressOrder.{address_parts, order_by_parts, is_same_address}
-use Rattle.addresses.specs.laws.AddressOrder.{parts_order-total, order_by_parts-total}
+use Rattle.addresses.specs.laws.AddressOrder.{parts_order-total}
 use Rattle.tables.specs.LookUps.{is_of}
-use Rattle.tables.specs.laws.Row.{held_at-live, held_at-ended}
+use Rattle.tables.specs.laws.Row.{held_at-live, held_at-ended, in_each, some_of, made_of}
 use Rattle.tables.specs.Rows.{held_at, slots_at}
 use Rattle.tables.specs.Search.{AreAscending, row_of, put_row}
 use Rattle.tables.specs.Stored.{stored_at, client_in, left_at, AreClients}
@@ -23,7 +22,7 @@ use Rattle.tables.specs.declared.clients.Client.{Client}
 use Rattle.tables.specs.WellFormed.{AreWellFormed}
 use Rattle.tables.specs.declared.held.Held.{Held}
 use Rattle.tables.specs.declared.moment.TheConstants.{LATEST}
-use Rattle.tables.proofs.Ascending.{searchable, Ascending-filter, Ascending-put_row, is_same-by_parts}
+use Rattle.tables.proofs.Ascending.{searchable, Ascending-distinct, Ascending-filter, Ascending-put_row, is_same-by_parts}
 use Rattle.tables.proofs.Lists.{find-Some, find-None, find-each}
 use Rattle.tables.proofs.Searches.{found_once, All-put_row, All-from_put_row}
 
@@ -124,13 +123,8 @@ left_some t (Some h) held is = elim (cases_Bool (nat_lt t h.allocation.end)) [
   | inr e ↦ absurd (none-some held (sym (cond-false (nat_lt t h.allocation.end) (Some h) None e) ∙ is))
 ]
 
-left_flat : (t : ℕ) (o : Option (Option Held)) → option_flatten (option_map (left_at t) o) ≡ left_at t (option_flatten o)
-left_flat t None = refl
-left_flat t (Some None) = refl
-left_flat t (Some (Some held)) = refl
-
 pub stored_at-swept : (t : ℕ) (slots : List (Option Held)) (k : ℕ) → stored_at (map (left_at t) slots) k ≡ left_at t (stored_at slots k)
-stored_at-swept t slots k = ap option_flatten (slice_get-map (left_at t) slots k) ∙ left_flat t (slice_get slots k)
+stored_at-swept t slots k = in_each (left_at t) refl slots k
 
 left_again : (t : ℕ) (o : Option Held) → option_and_then (held_at t) (left_at t o) ≡ option_and_then (held_at t) o
 left_again t None = refl
@@ -170,13 +164,8 @@ module _ {X : Type 0} (p : X → Bool) (P Q : X → Type 0) where
     | inr f ↦ All-cons Q x xs (h x (all zero x (omega arith)) f) (All-unkept h xs (All-tail P x xs all) (subst (All Q) (cond-false (p x) (x ∷ filter p xs) (filter p xs) f) kept))
   ]
 
-some_is : {X : Type 0} (o : Option X) → is_some o ≡ true → (x : X) × (o ≡ Some x)
-some_is None h = absurd (both_ways false refl h)
-some_is (Some x) h = (x, refl)
-
-some_client : (o : Option Held) (a : Addr) → client_in o ≡ Some a → (held : Held) × (o ≡ Some held)
-some_client None a is = absurd (none-some a is)
-some_client (Some held) a is = (held, refl)
+abbrev client_of : Held → Addr
+client_of held = held.allocation.client
 
 -- where each slot that something is left of keeps its client
 module _ (left : Option Held → Option Held) (none : left None ≡ None) (keeps : (o : Option Held) (held : Held) → left o ≡ Some held → client_in o ≡ Some held.allocation.client) (slots : List (Option Held))
@@ -184,17 +173,12 @@ module _ (left : Option Held → Option Held) (none : left None ≡ None) (keeps
   abbrev is_left : Client → Bool
   is_left row = is_some (stored_at (map left slots) row.slot)
 
-  flat_left : (o : Option (Option Held)) → option_flatten (option_map left o) ≡ left (option_flatten o)
-  flat_left None = sym none
-  flat_left (Some None) = refl
-  flat_left (Some (Some held)) = refl
-
   client_kept : (k : ℕ) (held : Held) → stored_at (map left slots) k ≡ Some held → client_in (stored_at slots k) ≡ Some held.allocation.client
-  client_kept k held is = keeps (stored_at slots k) held (sym (ap option_flatten (slice_get-map left slots k) ∙ flat_left (slice_get slots k)) ∙ is)
+  client_kept k held is = keeps (stored_at slots k) held (sym (in_each left none slots k) ∙ is)
 
   still : (row : Client) → client_in (stored_at slots row.slot) ≡ Some row.address → is_left row ≡ true → client_in (stored_at (map left slots) row.slot) ≡ Some row.address
   still row before has =
-      let now = some_is (stored_at (map left slots) row.slot) has in
+      let now = some_of (stored_at (map left slots) row.slot) has in
       ap client_in now.1 ∙ sym (client_kept row.slot now.0 now.1) ∙ before
 
   pub left_are : AreClients (map left slots) (filter (λ row. is_some (stored_at (map left slots) row.slot)) clients)
@@ -202,7 +186,7 @@ module _ (left : Option Held → Option Held) (none : left None ≡ None) (keeps
     ascending = Ascending-filter parts_order-total key_in is_left clients are.ascending;
     held = All-kept is_left (λ row. client_in (stored_at slots row.slot) ≡ Some row.address) (λ row. client_in (stored_at (map left slots) row.slot) ≡ Some row.address) still clients are.held;
     listed = λ slot held there unlisted.
-        let before = some_client (stored_at slots slot) held.allocation.client (client_kept slot held there) in
+        let before = made_of client_of (stored_at slots slot) held.allocation.client (client_kept slot held there) in
         are.listed slot before.0 before.1 (All-unkept is_left (λ row. client_in (stored_at slots row.slot) ≡ Some row.address) (λ row. row.slot ≢ slot)
         (λ row _ ended at. both_ways (is_left row) ended (ap (λ n. is_some (stored_at (map left slots) n)) at ∙ ap is_some there)) clients are.held unlisted);
   }
@@ -231,17 +215,6 @@ module _ (t : ℕ) (slots : List (Option Held)) (clients : List Client) (are : A
 
 -- ---- there are no more clients than slots
 
-either_part : (a b : Bool) → (a || b) ≡ true → a ≡ false → b ≡ true
-either_part true b h f = absurd (both_ways true f refl)
-either_part false b h f = h
-
-below_by : (q n : ℕ) (xs : List ℕ) → All (λ x. x < n) xs → list_any (eqb q) xs ≡ true → q < n
-below_by q n [] all any = absurd (both_ways false refl any)
-below_by q n (x ∷ xs) all any = elim (cases_Bool (eqb q x)) [
-  | inl t ↦ omega (arith, eqb-true q x t, all zero x (omega arith))
-  | inr f ↦ below_by q n xs (All-tail (λ x. x < n) x xs all) (either_part (eqb q x) (list_any (eqb q) xs) any f)
-]
-
 module _ (slots : List (Option Held)) (clients : List Client) (are : AreClients slots clients) where
   abbrev numbers : List ℕ
   numbers = map (λ (row : Client). row.slot) clients
@@ -249,15 +222,13 @@ module _ (slots : List (Option Held)) (clients : List Client) (are : AreClients 
   -- two clients have two slots
   slots_differ : (i j : ℕ) (d : Client) → i < j → j < length clients → (get_or clients i d).slot ≢ (get_or clients j d).slot
   slots_differ i j d p l s =
-      let a = (get_or clients i d).address in
-      let b = (get_or clients j d).address in
-      let same : a ≡ b = same_Some _ _ (sym (are.held i d (omega (arith, p, l))) ∙ ap (λ n. client_in (stored_at slots n)) s ∙ are.held j d l) in
-      both_ways (is_eq (order_by_parts a b)) (ap is_eq (are.ascending i j d p l)) (ap is_eq (subst (λ (c : Addr). order_by_parts a c ≡ Equal) same (tied_itself order_by_parts-total a)))
+      let same : (get_or clients i d).address ≡ (get_or clients j d).address = same_Some _ _ (sym (are.held i d (omega (arith, p, l))) ∙ ap (λ n. client_in (stored_at slots n)) s ∙ are.held j d l) in
+      Ascending-distinct parts_order-total key_in clients are.ascending i j d p l (ap address_parts same)
 
   pub few_clients : length clients ≤ length slots
   few_clients =
       let each : All (λ (row : Client). row.slot < length slots) clients = λ i d l.
-      let held = some_client (stored_at slots (get_or clients i d).slot) (get_or clients i d).address (are.held i d l) in
+      let held = made_of client_of (stored_at slots (get_or clients i d).slot) (get_or clients i d).address (are.held i d l) in
       inside slots (get_or clients i d).slot held.0 held.1 in
       let below : All (λ n. n < length slots) numbers = All-map (λ n. n < length slots) (λ (row : Client). row.slot) clients each in
       let long : length numbers ≡ length clients = length-map clients (λ (row : Client). row.slot) in
@@ -265,7 +236,7 @@ module _ (slots : List (Option Held)) (clients : List Client) (are : AreClients 
       let apart : (i j d : ℕ) → i < j → j < length numbers → eqb (get_or numbers i d) (get_or numbers j d) ≡ false = λ i j d p l.
       let within : j < length clients = omega (arith, l, long) in
       ne_eqb _ _ (λ s. slots_differ i j blank p within (sym (number i d (omega (arith, p, within))) ∙ s ∙ number j d within)) in
-      let few : length numbers ≤ length slots = length-le_from_distinct_below numbers (length slots) (IsDistinct-from_apart eqb numbers apart) (λ q any. below_by q (length slots) numbers below any) in
+      let few : length numbers ≤ length slots = length-le_from_distinct_below numbers (length slots) (IsDistinct-from_apart eqb numbers apart) (λ q any. All-contains (λ n. n < length slots) numbers q below (Contains-from_any eqb-true q numbers any)) in
       omega (arith, few, long)
 
 -- ---- slots that are filled
@@ -285,7 +256,7 @@ held_again slots clients slot held are within same =
       ];
       listed = λ k other is none. elim (cases_eq k slot) [
         | inl e ↦
-            let before = some_client (stored_at slots slot) held.allocation.client same in
+            let before = made_of client_of (stored_at slots slot) held.allocation.client same in
             are.listed slot before.0 before.1 (λ j d l at. none j d l (at ∙ sym e))
         | inr differ ↦ are.listed k other (sym (there k differ) ∙ is) none
       ];

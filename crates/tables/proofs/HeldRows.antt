@@ -26,6 +26,3 @@ on_made (Err e) ok p = absurd cc
 pub on_refused : {A E P : Type 0} (r : Result A E) → is_ok r ≡ false → OnErr r P → P
 on_refused (Ok x) refused p = absurd cc
 on_refused (Err e) refused p = p
-
-pub moved : (P : Held → Type 0) {a b : Held} → a ≡ b → P b → P a
-moved P same p = subst P (sym same) p

@@ -1,11 +1,12 @@
 -- Finite maps: an insert, and the key of a value.
-use Rattle.std.proofs.Common.{◌≡◌, ◌+◌, ◌≤◌, Bool, true, false, List, [], ◌∷◌, map, find, Option, Some, None, option_map, Ordering, sym, refl, ap, ◌∙◌, subst, inl, inr, arith}
+use Rattle.std.proofs.Common.{◌≡◌, ◌+◌, ◌≤◌, Bool, true, false, List, [], ◌∷◌, find, Option, Some, None, option_map, Ordering, sym, refl, ap, ◌∙◌, subst, inl, inr, arith}
 use Rattle.std.specs.Ordering.{eq_by_cmp}
 use Rattle.std.specs.Cmp.{IsTotalOrder}
 use Rattle.std.specs.FinMap.{FinMap, IsAntisymmetric, get, insert, len, entries, get-entries, len-insert, contains_key, find as lookup}
 use Rattle.std.proofs.lemmas.Bool.{cases_Bool, cond-true, cond-false, both_ways}
 use Rattle.std.proofs.lemmas.Option.{none-some, same_Some}
 use Rattle.tables.specs.laws.Map.{entry_found}
+use Rattle.tables.proofs.Lists.{find-Some}
 
 -- a map never gets smaller by an insert
 pub len-insert-ge : {K X : Type 0} {R : K → K → Ordering} → IsTotalOrder R → (m : FinMap R X) (k : K) (v : X) → len m ≤ len (insert m k v)
@@ -17,12 +18,8 @@ len-insert-ge o m k v = elim (cases_Bool (contains_key m k)) [
 -- ---- a search among the values
 
 module _ {K X : Type 0} {R : K → K → Ordering} (o : IsTotalOrder R) (same : IsAntisymmetric R) where
-  pub passes_found : (t : K × X → Bool) (es : List (K × X)) (e : K × X) → find t es ≡ Some e → t e ≡ true
-  passes_found t [] e s = absurd (none-some e s)
-  passes_found t (x ∷ es) e s = elim (cases_Bool (t x)) [
-    | inl b ↦ subst (λ (y : K × X). t y ≡ true) (same_Some _ _ (sym (cond-true (t x) _ _ b) ∙ s)) b
-    | inr b ↦ passes_found t es e (sym (cond-false (t x) _ _ b) ∙ s)
-  ]
+  passes_found : (t : K × X → Bool) (es : List (K × X)) (e : K × X) → find t es ≡ Some e → t e ≡ true
+  passes_found t es e s = (find-Some t (λ _. Unit {0}) es e (λ k d l. tt) s).1
 
   fails_unfound : (p : X → Bool) (es : List (K × X)) → find (λ e. p e.1) es ≡ None → (q : K) (v : X) → lookup R q es ≡ Some v → p v ≡ false
   fails_unfound p [] s q v h = absurd (none-some v h)

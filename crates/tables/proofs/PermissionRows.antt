@@ -1,9 +1,10 @@
 -- Permissions as they are stored, and their map.
-use Rattle.std.proofs.Common.{Ordering, ◌≡◌, ℕ, ◌+◌, ◌<◌, ◌≤◌, Bool, true, false, cond, List, [], ◌∷◌, length, get_or, take, filter, nat_lt, Option, None, Some, is_some, option_map, refl, sym, ap, ◌∙◌, inl, inr, arith}
+use Rattle.std.proofs.Common.{Ordering, ◌≡◌, ℕ, ◌+◌, ◌≤◌, Bool, true, false, cond, not, List, [], ◌∷◌, length, get_or, filter, nat_lt, Option, Some, is_some, is_none, option_map, refl, sym, ap, ◌∙◌, arith}
 use Rattle.std.specs.FinMap.{get, insert, len, contains_key, get-insert, len-insert}
 use Rattle.std.specs.Ordering.{eq_by_cmp}
-use Rattle.std.proofs.lemmas.Bool.{cases_Bool, cond-true, cond-false}
-use Rattle.std.proofs.lemmas.List.{take_more}
+use Rattle.std.specs.List.{count_by}
+use Rattle.std.proofs.lemmas.Bool.{false≢true}
+use Rattle.std.proofs.lemmas.List.Sums.{sum_by-cons}
 use Rattle.addresses.specs.Addresses.{ip_of}
 use Rattle.addresses.specs.declared.address.Addr.{Addr}
 use Rattle.tables.specs.Moments.{is_live_at}
@@ -12,7 +13,6 @@ use Rattle.tables.specs.RowLists.{permissions_of, ArePermissions}
 use Rattle.tables.specs.declared.permissions.Permission.{Permission}
 use Rattle.addresses.specs.AddressOrder.{ip_cmp, ip_order}
 use Rattle.addresses.specs.laws.AddressOrder.{ip_order-total, ip_order-same, ip_total, ip_antisymmetric}
-use Rattle.tables.specs.laws.Permit.{with_all-append}
 use Rattle.tables.specs.Search.{AreAscending, row_of, put_row}
 use Rattle.tables.specs.SortedRows.{AreSortedPermissions}
 use Rattle.tables.proofs.Ascending.{searchable, Ascending-distinct, Ascending-filter, Ascending-put_row}
@@ -67,36 +67,19 @@ len-with_all-ge m (ip ∷ ips) end = omega (arith, len-insert-ge ip_total m (ip_
 
 -- ---- room for all
 
-pub is_some-map : {A B : Type 0} (f : A → B) (o : Option A) → is_some (option_map f o) ≡ is_some o
-is_some-map f None = refl
-is_some-map f (Some x) = refl
-
-len-insert-le : (m : PermissionMap) (ip : List ℕ) (end : ℕ) → len (insert m ip end) ≤ len m + 1
-len-insert-le m ip end = elim (cases_Bool (contains_key m ip)) [
-  | inl t ↦ omega (arith, len-insert ip_total m ip end ∙ cond-true (contains_key m ip) (len m) (len m + 1) t)
-  | inr e ↦ omega (arith, len-insert ip_total m ip end ∙ cond-false (contains_key m ip) (len m) (len m + 1) e)
-]
-
 inserted_too : (b : Bool) (end : ℕ) (o : Option ℕ) → is_some o ≡ true → is_some (cond b (Some end) o) ≡ true
 inserted_too true end o there = refl
 inserted_too false end o there = there
 
-stays : (m : PermissionMap) (ips : List Addr) (end : ℕ) (ip : List ℕ) → is_some (get m ip) ≡ true → is_some (get (with_all m ips end) ip) ≡ true
-stays m [] end ip there = there
-stays m (x ∷ xs) end ip there =
-    stays (insert m (ip_of x) end) xs end ip (ap is_some (get-insert ip_total m (ip_of x) end ip) ∙ inserted_too (eq_by_cmp ip_cmp ip (ip_of x)) end (get m ip) there)
+one_more : (known there : Bool) (n : ℕ) → (known ≡ true → there ≡ true) → cond there n (n + 1) ≤ n + cond (not known) 1 0
+one_more known true n has = omega arith
+one_more false false n has = omega arith
+one_more true false n has = absurd (false≢true (has refl))
 
-module _ (m : PermissionMap) (ips : List Addr) (i end : ℕ) (d : Addr) (within : i < length ips) where
-  one_more : with_all m (take (i + 1) ips) end ≡ insert (with_all m (take i ips) end) (ip_of (get_or ips i d)) end
-  one_more = ap (λ (xs : List Addr). with_all m xs end) (take_more ips i d within) ∙ with_all-append m (take i ips) (get_or ips i d ∷ []) end
-
-  -- one more address takes at most one more row
-  pub len-one_more : (count : ℕ) → len (with_all m (take i ips) end) ≤ count → len (with_all m (take (i + 1) ips) end) ≤ count + 1
-  len-one_more count fits = omega (arith, fits, ap len one_more, len-insert-le (with_all m (take i ips) end) (ip_of (get_or ips i d)) end)
-
-  -- and none where it has one
-  pub len-one_again : (count : ℕ) → is_some (get m (ip_of (get_or ips i d))) ≡ true → len (with_all m (take i ips) end) ≤ count → len (with_all m (take (i + 1) ips) end) ≤ count
-  len-one_again count there fits =
-      let so_far = with_all m (take i ips) end in
-      let ip = ip_of (get_or ips i d) in
-      omega (arith, fits, ap len one_more, len-insert ip_total so_far ip end ∙ cond-true (contains_key so_far ip) (len so_far) (len so_far + 1) (stays m (take i ips) end ip there))
+-- an address takes at most one more row, and none where it has one
+pub len-with_all-le : (old m : PermissionMap) (ips : List Addr) (end : ℕ) → ((ip : List ℕ) → contains_key old ip ≡ true → contains_key m ip ≡ true) → len (with_all m ips end) ≤ len m + count_by (λ ip. is_none (get old (ip_of ip))) ips
+len-with_all-le old m [] end has = omega arith
+len-with_all-le old m (x ∷ xs) end has =
+    let ip = ip_of x in
+    let more = len-with_all-le old (insert m ip end) xs end (λ k there. ap is_some (get-insert ip_total m ip end k) ∙ inserted_too (eq_by_cmp ip_cmp k ip) end (get m k) (has k there)) in
+    omega (arith, more, len-insert ip_total m ip end, one_more (contains_key old ip) (contains_key m ip) (len m) (has ip), sum_by-cons (λ (ip : Addr). cond (is_none (get old (ip_of ip))) 1 0) x xs)

@@ -5,9 +5,9 @@ use Rattle.std.specs.Cmp.{IsTotalOrder, Equal-is, tied_itself, eq_by_cmp_equiv}
 use Rattle.std.specs.FinMap.{FinMap, IsAntisymmetric, get, insert, len, from_entries, get-from_entries, get-insert, same_map, len-insert, len-empty, find as lookup}
 use Rattle.std.proofs.lemmas.Bool.{false_from_ne_true, both_ways}
 use Rattle.std.proofs.lemmas.List.Elements.{All-tail}
-use Rattle.std.proofs.lemmas.Option.{none-some, same_Some}
 use Rattle.tables.specs.Retained.{kept_of, value_if}
 use Rattle.tables.specs.laws.Retained.{get-kept_of}
+use Rattle.tables.specs.laws.Row.{made_of}
 use Rattle.tables.specs.Search.{AreAscending, row_of, placed, put_row}
 use Rattle.tables.proofs.Lists.{AllPairs-head, AllPairs-tail, Once, find-Some, find-absent, find-each, find-filter}
 use Rattle.tables.proofs.Searches.{AllPairs-put_row}
@@ -49,16 +49,16 @@ module _ {K : Type 0} {R : K → K → Ordering} (o : IsTotalOrder R) (same : Is
 
   -- ---- a look-up
 
-  value_of-cond : (b : Bool) (x : Row) (row : Option Row) → value_of (cond b (Some x) row) ≡ cond b (Some (f x).1) (value_of row)
-  value_of-cond true x row = refl
-  value_of-cond false x row = refl
+  value_of-cond : (b : Bool) (row other : Option Row) → value_of (cond b row other) ≡ cond b (value_of row) (value_of other)
+  value_of-cond true row other = refl
+  value_of-cond false row other = refl
 
   lookup-row_of : (order : Row → Ordering) (q : K) (rows : List Row) → Finds order q rows → lookup R q (map f rows) ≡ value_of (row_of order rows)
   lookup-row_of order q [] finds = refl
   lookup-row_of order q (x ∷ rows) finds =
       ap (λ b. cond b (Some (f x).1) (lookup R q (map f rows))) ((eq_by_cmp_equiv o).symm q (f x).0 ∙ sym (finds zero x (omega arith)))
       ∙ ap (cond (is_eq (order x)) (Some (f x).1)) (lookup-row_of order q rows (All-tail (λ row. is_eq (order row) ≡ eq_by_cmp R (f row).0 q) x rows finds))
-      ∙ sym (value_of-cond (is_eq (order x)) x (row_of order rows))
+      ∙ sym (value_of-cond (is_eq (order x)) (Some x) (row_of order rows))
 
   pub get-row_of : (order : Row → Ordering) (q : K) (rows : List Row) → Finds order q rows → get (map_of rows) q ≡ option_map (λ row. (f row).1) (row_of order rows)
   get-row_of order q rows finds = get-from_entries o (map f rows) q ∙ lookup-row_of order q rows finds
@@ -69,10 +69,9 @@ module _ {K : Type 0} {R : K → K → Ordering} (o : IsTotalOrder R) (same : Is
   -- each entry is that of a row
   pub row_of_entry : (P : Row → Type 0) (rows : List Row) → All P rows → (q : K) (v : X) → get (map_of rows) q ≡ Some v → (row : Row) × P row × (q ≡ (f row).0) × ((f row).1 ≡ v)
   row_of_entry P rows all q v at =
-      elim (row_of (λ row. R (f row).0 q) rows) as (λ r. row_of (λ row. R (f row).0 q) rows ≡ r → value_of r ≡ Some v → (row : Row) × P row × (q ≡ (f row).0) × ((f row).1 ≡ v)) [
-        | None ↦ λ is there. absurd (none-some v there)
-        | Some row ↦ λ is there. let r = find-Some (has_key q) P rows row all is in (row, r.0, sym (tied (f row).0 q r.1), same_Some _ _ there)
-      ] refl (sym (get-own q rows) ∙ at)
+      let made = made_of (λ row. (f row).1) (row_of (λ row. R (f row).0 q) rows) v (sym (get-own q rows) ∙ at) in
+      let r = find-Some (has_key q) P rows made.0 all made.1 in
+      (made.0, r.0, sym (tied (f made.0).0 q r.1), made.2)
 
   -- ---- rows whose keys differ
 
@@ -94,15 +93,11 @@ module _ {K : Type 0} {R : K → K → Ordering} (o : IsTotalOrder R) (same : Is
       let rest = len-map_of rows (AllPairs-tail Q x rows distinct) in
       omega (arith, more, rest)
 
-  value_of-kept : (b : Bool) (row : Option Row) → value_of (cond b row None) ≡ cond b (value_of row) None
-  value_of-kept true row = refl
-  value_of-kept false row = refl
-
   -- the rows whose values pass a test
   pub map_of-filter : (test : Option X → Bool) (p : Row → Bool) → ((row : Row) → p row ≡ test (Some (f row).1)) → (rows : List Row) → Distinct rows → map_of (filter p rows) ≡ kept_of test (map_of rows)
   map_of-filter test p is rows distinct = same_map o same _ _ (λ q.
       get-own q (filter p rows) ∙ ap value_of (find-filter (has_key q) p (λ row. test (value_of row)) is rows (once q rows distinct))
-      ∙ value_of-kept (test (value_of (row_of (λ row. R (f row).0 q) rows))) (row_of (λ row. R (f row).0 q) rows)
+      ∙ value_of-cond (test (value_of (row_of (λ row. R (f row).0 q) rows))) (row_of (λ row. R (f row).0 q) rows) None
       ∙ sym (get-kept_of o test (map_of rows) q ∙ ap (value_if test) (get-own q rows)))
 
   -- ---- a row at its place

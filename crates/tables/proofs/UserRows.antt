@@ -1,11 +1,11 @@
 -- What is stored where allocations have other users, or none.
 use Rattle.std.proofs.Common.{◌≡◌, ℕ, List, [], ◌∷◌, map, filter, nat_lt, true, false, Option, Some, None, is_some, option_map, option_and_then, sym, refl, ap, ◌∙◌, inl, inr}
 use Rattle.std.proofs.lemmas.Bool.{cases_Bool}
-use Rattle.std.proofs.lemmas.Option.{none-some, same_Some}
+use Rattle.std.proofs.lemmas.Option.{none-some}
 use Rattle.tables.specs.Rows.{Rows, held_at, slots_at, live_rows}
 use Rattle.tables.specs.Stored.{AreStored, stored_at, client_in}
 use Rattle.tables.specs.Users.{with_user, held_of_user, rows_for}
-use Rattle.tables.specs.laws.Row.{live_held, held_at-live, held_at-ended}
+use Rattle.tables.specs.laws.Row.{live_held, held_at-live, held_at-ended, made_of}
 use Rattle.tables.specs.laws.WellFormed.{users-well_formed}
 use Rattle.tables.specs.declared.allocation.Allocation.{Allocation}
 use Rattle.tables.specs.declared.clients.Client.{Client}
@@ -39,13 +39,9 @@ module _ (user : Allocation → Option ℕ) where
 
   -- ---- clients
 
-  of_user : (old held : Held) (user : Option ℕ) → option_map (with_user old) user ≡ Some held → client_in (Some old) ≡ Some held.allocation.client
-  of_user old held None is = absurd (none-some held is)
-  of_user old held (Some user) is = ap (λ (h : Held). Some h.allocation.client) (same_Some _ _ is)
-
   client_of_users : (o : Option Held) (held : Held) → option_and_then (held_of_user user) o ≡ Some held → client_in o ≡ Some held.allocation.client
   client_of_users None held is = absurd (none-some held is)
-  client_of_users (Some old) held is = of_user old held (user old.allocation) is
+  client_of_users (Some old) held is = ap (λ (h : Held). Some h.allocation.client) (made_of (with_user old) (user old.allocation) held is).2
 
   pub stored-users : (t : ℕ) (slots : List (Option Held)) (clients : List Client) → AreStored t slots clients
       → AreStored t (map (option_and_then (held_of_user user)) slots) (filter (λ row. is_some (stored_at (map (option_and_then (held_of_user user)) slots) row.slot)) clients)

@@ -118,13 +118,11 @@ impl Permissions {
     pub(crate) fn have_room(&self, ips: &[Addr]) -> bool
         ensures { OnTrue result ((end : ℕ) → len (with_all self.now ips.now end) ≤ MAX_PERMISSIONS) }
     {
-        let mut count = self.rows.len();
-        for ip in ips {
-            if row_of(&self.rows, ip, &mut Uncounted).is_none() {
-                count += 1;
-            }
-        }
-        count <= MAX_PERMISSIONS
+        let new = ips
+            .iter()
+            .filter(|ip| self.end_of(ip, &mut Uncounted).is_none())
+            .count();
+        self.rows.len() + new <= MAX_PERMISSIONS
     }
 
     /// Returns whether there is room for the permission of an IP address.

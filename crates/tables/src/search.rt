@@ -115,10 +115,7 @@ pub(crate) fn filtered<R: Copy + Default, F: Fn(&R) -> bool, const N: usize>(
     ensures few { length result.items ≤ N }
 {
     let mut left = ArrayVec::new();
-    for row in rows.as_slice() {
-        if test(row) {
-            left.push(*row);
-        }
-    }
+    let _ = left.try_extend_from_slice(rows.as_slice());
+    left.retain(|row| test(row));
     left
 }

@@ -144,12 +144,7 @@ impl Tables {
         requires later { self.now.moment ≤ moment }
         ensures { result ≡ first_free (live_rows moment self.now) }
     {
-        for slot in 0..self.slots.len() {
-            if self.live(slot, moment).is_none() {
-                return Some(slot);
-            }
-        }
-        None
+        (0..self.slots.len()).position(|slot| self.live(slot, moment).is_none())
     }
 
     /// Returns the number of allocations that are live at a moment.
@@ -157,13 +152,9 @@ impl Tables {
         ensures { result ≡ allocation_count (rows_at now self.now) }
     {
         let moment = self.moment_at(now);
-        let mut count = 0;
-        for slot in 0..self.slots.len() {
-            if self.live(slot, moment).is_some() {
-                count += 1;
-            }
-        }
-        count
+        (0..self.slots.len())
+            .filter(|slot| self.live(*slot, moment).is_some())
+            .count()
     }
 
     /// Returns whether a slot holds an allocation of an owner that is live at a moment.
@@ -182,13 +173,9 @@ impl Tables {
         ensures { result ≡ allocations_of owner.now (rows_at now self.now) }
     {
         let moment = self.moment_at(now);
-        let mut count = 0;
-        for slot in 0..self.slots.len() {
-            if self.is_owned(slot, moment, owner) {
-                count += 1;
-            }
-        }
-        count
+        (0..self.slots.len())
+            .filter(|slot| self.is_owned(*slot, moment, owner))
+            .count()
     }
 
     /// Puts into a free slot what it holds for a new client from a moment on, the greatest so far.

@@ -1,11 +1,11 @@
 -- Interface. Laws of the live rows.
-use Rattle.std.specs.Prelude.{◌≡◌, ℕ, ◌≤◌, Bool, true, false, cond, nat_lt, List, [], ◌∷◌, slice_get, Option, None, Some, is_some, refl}
+use Rattle.std.specs.Prelude.{◌≡◌, ℕ, zero, suc, ◌≤◌, Bool, true, false, cond, nat_lt, List, [], ◌∷◌, map, slice_get, Option, None, Some, is_some, refl}
 use Rattle.std.specs.Option.{option_map, option_and_then, option_flatten}
 use Rattle.std.specs.Cmp.{nat_cmp_total}
 use Rattle.std.specs.FinMap.{get, nat_cmp-IsAntisymmetric}
 use Rattle.std.proofs.Common.{sym, ap, ◌∙◌, inl, inr, arith}
 use Rattle.std.proofs.lemmas.Bool.{cases_Bool, cond-true, cond-false, both_ways, ltb-true, lt-ltb}
-use Rattle.std.proofs.lemmas.Option.{none-some, slice_get-map}
+use Rattle.std.proofs.lemmas.Option.{none-some, same_Some}
 use Rattle.addresses.specs.Addresses.{ip_of}
 use Rattle.addresses.specs.laws.AddressOrder.{ip_total, ip_antisymmetric}
 use Rattle.addresses.specs.declared.address.Addr.{Addr}
@@ -67,13 +67,14 @@ slots_again t u (slot ∷ slots) le = λ i. slot_again t u slot le i ∷ slots_a
 pub live_again : (t u : ℕ) (rows : Rows) → t ≤ u → live_rows u (live_rows t rows) ≡ live_rows u rows
 live_again t u rows le = λ i. record { moment = u; slots = slots_again t u rows.slots le i }
 
-flattened : (t : ℕ) (slot : Option (Option Held)) → option_flatten (option_map (option_and_then (held_at t)) slot) ≡ option_and_then (held_at t) (option_flatten slot)
-flattened t None = refl
-flattened t (Some None) = refl
-flattened t (Some (Some held)) = refl
+-- where each slot holds something else
+pub in_each : (f : Option Held → Option Held) → f None ≡ None → (slots : List (Option Held)) (slot : ℕ) → option_flatten (slice_get (map f slots) slot) ≡ f (option_flatten (slice_get slots slot))
+in_each f none [] slot = sym none
+in_each f none (o ∷ slots) zero = refl
+in_each f none (o ∷ slots) (suc slot) = in_each f none slots slot
 
 pub held_in-live : (t slot : ℕ) (rows : Rows) → held_in (live_rows t rows) slot ≡ option_and_then (held_at t) (held_in rows slot)
-held_in-live t slot rows = ap option_flatten (slice_get-map (option_and_then (held_at t)) rows.slots slot) ∙ flattened t (slice_get rows.slots slot)
+held_in-live t slot rows = in_each (option_and_then (held_at t)) refl rows.slots slot
 
 -- ---- a greater moment never brings a row back
 
@@ -92,6 +93,11 @@ before_in t u slot rows f le each a h =
     ap (option_and_then f) (held_in-live t slot rows)
     ∙ before t u f le each (held_in rows slot) a (sym (ap (option_and_then f) (held_in-live u slot rows)) ∙ h)
 
+-- what is made of something is made of what there is
+pub made_of : {A B : Type 0} (f : A → B) (o : Option A) (y : B) → option_map f o ≡ Some y → (x : A) × (o ≡ Some x) × (f x ≡ y)
+made_of f None y e = absurd (none-some y e)
+made_of f (Some x) y e = (x, refl, same_Some _ _ e)
+
 mapped : {A B : Type 0} (d : A → B) (o : Option A) → option_map d o ≡ option_and_then (λ x. Some (d x)) o
 mapped d None = refl
 mapped d (Some x) = refl
@@ -101,7 +107,7 @@ allocation_was_live t u slot rows a le h =
     mapped (λ held. held.allocation) (held_in (live_rows t rows) slot)
     ∙ before_in t u slot rows (λ held. Some held.allocation) le (λ held a e. e) a (sym (mapped (λ held. held.allocation) (held_in (live_rows u rows) slot)) ∙ h)
 
-some_of : {A : Type 0} (o : Option A) → is_some o ≡ true → (a : A) × (o ≡ Some a)
+pub some_of : {A : Type 0} (o : Option A) → is_some o ≡ true → (a : A) × (o ≡ Some a)
 some_of None h = absurd (both_ways false refl h)
 some_of (Some a) h = (a, refl)
 

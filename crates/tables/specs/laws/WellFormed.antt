@@ -7,9 +7,10 @@ use Rattle.std.specs.FinMap.{get, insert, len, get-empty, get-insert, len-empty,
 use Rattle.std.proofs.Common.{sym, ap, subst, ◌∙◌, inl, inr, arith}
 use Rattle.std.proofs.lemmas.Bool.{cases_Bool, cases_eq, cond-true, cond-false, leb-true}
 use Rattle.std.proofs.lemmas.List.{length-map, length-replicate, length-set}
-use Rattle.std.proofs.lemmas.Option.{none-some, same_Some, slice_get-map}
+use Rattle.std.proofs.lemmas.List.Folds.{find_at}
+use Rattle.std.proofs.lemmas.Option.{none-some, same_Some, option_and_then_some}
 use Rattle.basics.specs.Fallible.{◌>>=◌, check}
-use Rattle.std.specs.List.{list_all}
+use Rattle.std.specs.List.{list_all, position_or_len}
 use Rattle.addresses.specs.Addresses.{IsAddress, IsIpv4Address, is_of_family}
 use Rattle.addresses.specs.declared.address.Family.{Family}
 use Rattle.addresses.specs.AddressOrder.{ip_cmp, is_same_address}
@@ -25,7 +26,7 @@ use Rattle.tables.specs.laws.Moment.{moment_of-latest}
 use Rattle.tables.specs.Moments.{moment_of, is_live_at}
 use Rattle.tables.specs.Permissions.{PermissionMap, with_all}
 use Rattle.tables.specs.laws.Retained.{get-kept_of, kept_from, len-kept_of}
-use Rattle.tables.specs.laws.Row.{is_live_binding, live_held, held_at-live, held_at-ended, held_in-live}
+use Rattle.tables.specs.laws.Row.{is_live_binding, live_held, held_at-live, held_at-ended, held_in-live, in_each, made_of}
 use Rattle.tables.specs.Rows.{Rows, held_at, live_rows, rows_at, no_rows}
 use Rattle.tables.specs.Users.{with_user, held_of_user, rows_for}
 use Rattle.tables.specs.WellFormed.{IsChannel, IsHeldAt, AreWellFormed}
@@ -120,15 +121,12 @@ no_rows-well_formed n few = record {
   held = λ slot held there. absurd (none-some held (sym (nothing n slot) ∙ there));
 }
 
-counted_from : (t slot : ℕ) (o : Option Held) (left : Held) → option_and_then (held_at t) o ≡ Some left → ((held : Held) → o ≡ Some held → IsHeldAt slot held) → IsHeldAt slot left
-counted_from t slot None left there each = absurd (none-some left there)
-counted_from t slot (Some held) left there each = left-held_at t slot held left (each held refl) there
-
 pub live-well_formed : (t : ℕ) (rows : Rows) → t ≤ LATEST → AreWellFormed rows → AreWellFormed (live_rows t rows)
 live-well_formed t rows latest are = record {
   latest = latest;
   few = omega (arith, are.few, length-map rows.slots (option_and_then (held_at t)));
-  held = λ slot left there. counted_from t slot (held_in rows slot) left (sym (held_in-live t slot rows) ∙ there) (are.held slot);
+  held = λ slot left there. option_and_then_some (held_at t) (held_in rows slot) left (sym (held_in-live t slot rows) ∙ there)
+      (λ held is. left-held_at t slot held left (are.held slot held is));
 }
 
 pub rows_at-well_formed : (t : ℕ) (rows : Rows) → AreWellFormed rows → AreWellFormed (rows_at t rows)
@@ -136,8 +134,7 @@ rows_at-well_formed t rows are = live-well_formed (moment_of rows.moment t) rows
 
 pub get-set_same : (slots : List (Option Held)) (i : ℕ) (o : Option Held) → i < length slots → option_flatten (slice_get (slice_set slots i o) i) ≡ o
 get-set_same [] i o l = absurd (omega arith)
-get-set_same (x ∷ xs) zero None l = refl
-get-set_same (x ∷ xs) zero (Some held) l = refl
+get-set_same (x ∷ xs) zero o l = refl
 get-set_same (x ∷ xs) (suc i) o l = get-set_same xs i o (omega arith)
 
 pub get-set_other : (slots : List (Option Held)) (i k : ℕ) (o : Option Held) → k ≢ i → slice_get (slice_set slots i o) k ≡ slice_get slots k
@@ -235,109 +232,56 @@ with_user-held_at : (slot user : ℕ) (held : Held) → IsHeldAt slot held → I
 with_user-held_at slot user held is =
     record { at_slot = is.at_slot; client = is.client; channels = is.channels; few_permissions = is.few_permissions; few_channels = is.few_channels }
 
-mapped-held_at : (slot : ℕ) (held left : Held) (user : Option ℕ) → option_map (with_user held) user ≡ Some left → IsHeldAt slot held → IsHeldAt slot left
-mapped-held_at slot held left None there is = absurd (none-some left there)
-mapped-held_at slot held left (Some user) there is = subst (IsHeldAt slot) (same_Some _ _ there) (with_user-held_at slot user held is)
-
 module _ (user : Allocation → Option ℕ) where
-  replaced_from : (slot : ℕ) (o : Option Held) (left : Held) → option_and_then (held_of_user user) o ≡ Some left → ((held : Held) → o ≡ Some held → IsHeldAt slot held) → IsHeldAt slot left
-  replaced_from slot None left there each = absurd (none-some left there)
-  replaced_from slot (Some held) left there each = mapped-held_at slot held left (user held.allocation) there (each held refl)
-
-  flat_replaced : (slot : Option (Option Held)) → option_flatten (option_map (option_and_then (held_of_user user)) slot) ≡ option_and_then (held_of_user user) (option_flatten slot)
-  flat_replaced None = refl
-  flat_replaced (Some None) = refl
-  flat_replaced (Some (Some held)) = refl
-
   pub users-well_formed : (rows : Rows) → AreWellFormed rows → AreWellFormed (rows_for user rows)
   users-well_formed rows are = record {
     latest = are.latest;
     few = omega (arith, are.few, length-map rows.slots (option_and_then (held_of_user user)));
-    held = λ slot left there.
-        let replaced = ap option_flatten (slice_get-map (option_and_then (held_of_user user)) rows.slots slot) ∙ flat_replaced (slice_get rows.slots slot) in
-        replaced_from slot (held_in rows slot) left (sym replaced ∙ there) (are.held slot);
+    held = λ slot left there. option_and_then_some (held_of_user user) (held_in rows slot) left (sym (in_each (option_and_then (held_of_user user)) refl rows.slots slot) ∙ there)
+        (λ held is replaced. let made = made_of (with_user held) (user held.allocation) left replaced in subst (IsHeldAt slot) made.2 (with_user-held_at slot made.0 held (are.held slot held is)));
   }
 
 -- ---- look-ups
 
 -- the allocation at a slot names the slot, and its client has an IPv4 address
 pub allocation_at-held : (slot : ℕ) (rows : Rows) (a : Allocation) → AreWellFormed rows → allocation_at slot rows ≡ Some a → (a.slot ≡ slot) × IsIpv4Address a.client
-allocation_at-held slot rows a are =
-    elim (held_in rows slot) as (λ o. held_in rows slot ≡ o → option_map (λ held. held.allocation) o ≡ Some a → (a.slot ≡ slot) × IsIpv4Address a.client) [
-      | None ↦ λ is there. absurd (none-some a there)
-      | Some held ↦ λ is there.
-          let one : held.allocation ≡ a = same_Some _ _ there in
-          let at = are.held slot held is in
-          (subst (λ (a : Allocation). a.slot ≡ slot) one at.at_slot, subst (λ (a : Allocation). IsIpv4Address a.client) one at.client)
-    ] refl
-
-slot_found : (p : Option Held → Bool) (slots : List (Option Held)) (o : Option Held) → find p slots ≡ Some o → (i : ℕ) × (slice_get slots i ≡ Some o)
-slot_found p [] o e = absurd (none-some o e)
-slot_found p (x ∷ xs) o e = elim (cases_Bool (p x)) [
-  | inl t ↦ (zero, sym (cond-true (p x) (Some x) (find p xs) t) ∙ e)
-  | inr f ↦ let rest = slot_found p xs o (sym (cond-false (p x) (Some x) (find p xs) f) ∙ e) in (suc rest.0, rest.1)
-]
+allocation_at-held slot rows a are there =
+    let made = made_of (λ held. held.allocation) (held_in rows slot) a there in
+    let at = are.held slot made.0 made.1 in
+    (subst (λ (a : Allocation). a.slot ≡ slot) made.2 at.at_slot, subst (λ (a : Allocation). IsIpv4Address a.client) made.2 at.client)
 
 -- the slot of a client is the one that its allocation names
 pub held_by-at_slot : (client : Addr) (rows : Rows) (held : Held) → AreWellFormed rows → held_by client rows ≡ Some held → held_in rows held.allocation.slot ≡ Some held
-held_by-at_slot client rows held are =
-    elim (find (is_of client) rows.slots) as (λ o. find (is_of client) rows.slots ≡ o → option_flatten o ≡ Some held → held_in rows held.allocation.slot ≡ Some held) [
-      | None ↦ λ is there. absurd (none-some held there)
-      | Some None ↦ λ is there. absurd (none-some held there)
-      | Some (Some found) ↦ λ is there.
-          let at = slot_found (is_of client) rows.slots (Some found) is in
-          let holds : held_in rows at.0 ≡ Some held = ap option_flatten at.1 ∙ there in
-          ap (held_in rows) (are.held at.0 held holds).at_slot ∙ holds
-    ] refl
+held_by-at_slot client rows held are there =
+    let slot = position_or_len (is_of client) rows.slots in
+    let holds : held_in rows slot ≡ Some held = ap option_flatten (sym (find_at (is_of client) rows.slots)) ∙ there in
+    ap (held_in rows) (are.held slot held holds).at_slot ∙ holds
 
 -- the allocation of a client is that at its slot
 pub allocation_of-at_slot : (client : Addr) (rows : Rows) (a : Allocation) → AreWellFormed rows → allocation_of client rows ≡ Some a → allocation_at a.slot rows ≡ Some a
-allocation_of-at_slot client rows a are =
-    elim (held_by client rows) as (λ o. held_by client rows ≡ o → option_map (λ held. held.allocation) o ≡ Some a → allocation_at a.slot rows ≡ Some a) [
-      | None ↦ λ is there. absurd (none-some a there)
-      | Some held ↦ λ is there.
-          ap (λ (a : Allocation). allocation_at a.slot rows) (sym (same_Some _ _ there))
-          ∙ ap (option_map (λ held. held.allocation)) (held_by-at_slot client rows held are is)
-          ∙ there
-    ] refl
-
-peer_bound : (slot number : ℕ) (held : Held) (peer : Addr) (option : Option Binding) → IsHeldAt slot held → get held.channels number ≡ option → option_map (λ b. b.peer) option ≡ Some peer → IsAddress peer
-peer_bound slot number held peer None is at there = absurd (none-some peer there)
-peer_bound slot number held peer (Some binding) is at there = subst IsAddress (same_Some _ _ there) (is.channels number binding at).peer
+allocation_of-at_slot client rows a are there =
+    let made = made_of (λ held. held.allocation) (held_by client rows) a there in
+    ap (λ (a : Allocation). allocation_at a.slot rows) (sym made.2) ∙ ap (option_map (λ held. held.allocation)) (held_by-at_slot client rows made.0 are made.1) ∙ ap Some made.2
 
 -- the peer of a channel is an address
 pub bound_peer-address : (slot number : ℕ) (held : Held) (peer : Addr) → IsHeldAt slot held → bound_peer number held ≡ Some peer → IsAddress peer
-bound_peer-address slot number held peer is there = peer_bound slot number held peer (get held.channels number) is refl there
+bound_peer-address slot number held peer is there = let made = made_of (λ b. b.peer) (get held.channels number) peer there in subst IsAddress made.2 (is.channels number made.0 made.1).peer
 
 pub peer_of-address : (slot number : ℕ) (rows : Rows) (peer : Addr) → AreWellFormed rows → peer_of slot number rows ≡ Some peer → IsAddress peer
-peer_of-address slot number rows peer are =
-    elim (held_in rows slot) as (λ o. held_in rows slot ≡ o → option_and_then (bound_peer number) o ≡ Some peer → IsAddress peer) [
-      | None ↦ λ is there. absurd (none-some peer there)
-      | Some held ↦ λ is there. bound_peer-address slot number held peer (are.held slot held is) there
-    ] refl
-
-number_bound : (slot number : ℕ) (held : Held) (peer : Addr) (l : Option (ℕ × Binding)) → IsHeldAt slot held → find (λ e. is_same_address peer e.1.peer) (entries held.channels) ≡ l
-    → option_map (λ e. e.0) l ≡ Some number → IsChannelNumber number
-number_bound slot number held peer None is at there = absurd (none-some number there)
-number_bound slot number held peer (Some e) is at there =
-    let bound = entry_found nat_cmp_total (λ e. is_same_address peer e.1.peer) held.channels e at in
-    subst IsChannelNumber (same_Some e.0 number there) (is.channels e.0 e.1 bound).in_range
+peer_of-address slot number rows peer are there =
+    option_and_then_some (bound_peer number) (held_in rows slot) peer there (λ held is. bound_peer-address slot number held peer (are.held slot held is))
 
 -- the channel of a peer has one of the numbers of channels
 pub bound_channel-number : (slot : ℕ) (peer : Addr) (held : Held) (number : ℕ) → IsHeldAt slot held → bound_channel peer held ≡ Some number → IsChannelNumber number
-bound_channel-number slot peer held number is there = number_bound slot number held peer (find (λ e. is_same_address peer e.1.peer) (entries held.channels)) is refl there
+bound_channel-number slot peer held number is there =
+    let is_to : ℕ × Binding → Bool = λ e. is_same_address peer e.1.peer in
+    let made = made_of (λ e. e.0) (find is_to (entries held.channels)) number there in
+    subst IsChannelNumber made.2 (is.channels made.0.0 made.0.1 (entry_found nat_cmp_total is_to held.channels made.0 made.1)).in_range
 
 pub channel_of-number : (slot : ℕ) (peer : Addr) (rows : Rows) (number : ℕ) → AreWellFormed rows → channel_of slot peer rows ≡ Some number → IsChannelNumber number
-channel_of-number slot peer rows number are =
-    elim (held_in rows slot) as (λ o. held_in rows slot ≡ o → option_and_then (bound_channel peer) o ≡ Some number → IsChannelNumber number) [
-      | None ↦ λ is there. absurd (none-some number there)
-      | Some held ↦ λ is there. bound_channel-number slot peer held number (are.held slot held is) there
-    ] refl
-
-number_of_bound : (slot number : ℕ) (held : Held) (peer : Addr) (option : Option Binding) → IsHeldAt slot held → get held.channels number ≡ option → option_map (λ b. b.peer) option ≡ Some peer → IsChannelNumber number
-number_of_bound slot number held peer None is at there = absurd (none-some peer there)
-number_of_bound slot number held peer (Some binding) is at there = (is.channels number binding at).in_range
+channel_of-number slot peer rows number are there =
+    option_and_then_some (bound_channel peer) (held_in rows slot) number there (λ held is. bound_channel-number slot peer held number (are.held slot held is))
 
 -- a number that is bound is one of the numbers of channels
 pub bound_peer-number : (slot number : ℕ) (held : Held) (peer : Addr) → IsHeldAt slot held → bound_peer number held ≡ Some peer → IsChannelNumber number
-bound_peer-number slot number held peer is there = number_of_bound slot number held peer (get held.channels number) is refl there
+bound_peer-number slot number held peer is there = let made = made_of (λ b. b.peer) (get held.channels number) peer there in (is.channels number made.0 made.1).in_range

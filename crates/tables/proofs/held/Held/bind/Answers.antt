@@ -1,5 +1,5 @@
 use Rattle.std.proofs.Common.{sym, ◌∙◌, subst}
-use Rattle.tables.proofs.HeldRows.{on_made, on_refused, moved}
+use Rattle.tables.proofs.HeldRows.{on_made, on_refused}
 use Rattle.tables.proofs.SlotChanges.{bind-beside, bound-at}
 use Rattle.tables.specs.laws.Row.{live_held}
 use Rattle.tables.specs.Stored.{LeavesHeld, bind_held}
@@ -27,4 +27,4 @@ returns-clause-follows c =
 pub returns-clause-held_at : goal.returns-clause-held_at
 returns-clause-held_at c = λ slot is.
     let unchanged = on_refused c.put.result (sym c.is_ok.ensures.value ∙ c.if-is_ok.false) c.put.ensures.unchanged in
-    c.put_swept.ensures.held_at slot (moved (IsHeldAt slot) unchanged is)
+    c.put_swept.ensures.held_at slot (subst (IsHeldAt slot) (sym unchanged) is)

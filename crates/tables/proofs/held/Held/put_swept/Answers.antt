@@ -1,4 +1,4 @@
-use Rattle.tables.proofs.HeldRows.{moved}
+use Rattle.std.proofs.Common.{sym, subst}
 use Rattle.tables.proofs.SlotChanges.{bind-left, bound-at}
 use Rattle.tables.specs.WellFormed.{IsHeldAt}
 use Rattle.tables.specs.laws.WellFormed.{live-held_at}
@@ -13,4 +13,4 @@ pub returns-clause-held_at : goal.returns-clause-held_at
 returns-clause-held_at c = λ slot is.
     let put = c.in_ok-put.ensures {u = tt} in
     bound-at slot c.args.moment c.args.number c.args.peer c.at-left.result c.put.new.self put.made c.requires.range put.address put.few.0 put.few.1
-    (moved (IsHeldAt slot) c.at-left.ensures (live-held_at c.args.moment slot c.args.self.now is))
+    (subst (IsHeldAt slot) (sym c.at-left.ensures) (live-held_at c.args.moment slot c.args.self.now is))
