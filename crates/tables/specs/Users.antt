@@ -1,4 +1,4 @@
--- Meaning. The rows where the users of a relay are replaced, or some are revoked: what each slot holds goes on or ends by its user.
+-- Meaning. The rows where the users of a relay are replaced, or some are revoked: what each slot holds continues or ends by its user.
 use Rattle.std.specs.Prelude.{ℕ, List, map, slice_get, bytes_eq, Option, None, Some, unwrap_or, if◌then◌else◌}
 use Rattle.std.specs.List.{list_any}
 use Rattle.std.specs.Option.{option_map, option_and_then}

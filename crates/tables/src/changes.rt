@@ -18,8 +18,8 @@ impl Tables {
     ghost use Rattle.tables.specs.Rows.{rows_at};
     ghost use Rattle.tables.specs.Changes.{Follows, allocation_change, refresh_change, permit_change, bind_change};
 
-    /// Makes an allocation at the lowest free slot, with no permissions and no channels, and returns the slot. Its end is
-    /// the lifetime, in seconds, after the moment (RFC 8656, section 7).
+    /// Makes an allocation at the lowest free slot, with no permissions and no channels, and returns the slot. Its end
+    /// is the lifetime, in seconds, after the moment (RFC 8656, section 7).
     ///
     /// # Errors
     /// `Mismatch` where the client has an allocation; `Capacity` where no slot is free.
@@ -34,7 +34,8 @@ impl Tables {
         lifetime: u32,
     ) -> Result<usize, TableError>
         requires ipv4 { IsTrue (is_ipv4 client) }
-        ensures follows { Follows (allocation_change client user owner tx family lifetime (rows_at now self.old)) self.old result self.new }
+        ensures follows { Follows (allocation_change client user owner tx family lifetime
+            (rows_at now self.old)) self.old result self.new }
         ensures inside { IfOk result (λ slot. slot < length self.old.slots) }
         ensures moment { (self.old.moment ≤ self.new.moment) × (self.new.moment ≤ moment_of self.old.moment now) }
         ensures slots { length self.new.slots ≡ length self.old.slots }
@@ -92,8 +93,8 @@ impl Tables {
         Ok(())
     }
 
-    /// Gives the allocation at a slot a new end, the lifetime, in seconds, after the moment (RFC 8656, section 8). With a
-    /// lifetime of 0 it has ended.
+    /// Gives the allocation at a slot a new end, the lifetime, in seconds, after the moment (RFC 8656, section 8). With
+    /// a lifetime of 0 it has ended.
     ///
     /// # Errors
     /// `NoAllocation` where the slot has none.
@@ -105,12 +106,12 @@ impl Tables {
         self.change(now, slot, HeldChange::Refresh { lifetime })
     }
 
-    /// Permits IP addresses at a slot for [`PERMISSION_LIFETIME`], or renews their permissions (RFC 8656, section 9): all of
-    /// them or none. Ports are not looked at. An empty list is a change too.
+    /// Permits IP addresses at a slot for [`PERMISSION_LIFETIME`], or renews their permissions (RFC 8656, section 9):
+    /// all of them or none. Ports are ignored. An empty list is a change too.
     ///
     /// # Errors
-    /// `NoAllocation` where the slot has none; `Family` where an address is not of its family; `Capacity` where it would have
-    /// more than [`MAX_PERMISSIONS`] permissions.
+    /// `NoAllocation` where the slot has none; `Family` where an address is not of its family; `Capacity` where it
+    /// would have more than [`MAX_PERMISSIONS`] permissions.
     ///
     /// [`MAX_PERMISSIONS`]: crate::MAX_PERMISSIONS
     pub fn permit(&mut self, now: u64, slot: usize, ips: &[Addr]) -> Result<(), TableError>
@@ -125,9 +126,9 @@ impl Tables {
     /// address as [`Tables::permit`] does (RFC 8656, section 12).
     ///
     /// # Errors
-    /// `NoAllocation` where the slot has none; `Family` where the peer is not of its family; `Conflict` where the number is
-    /// bound to another peer, or the peer to another number; `Capacity` where there would be more than [`MAX_CHANNELS`] channels
-    /// or [`MAX_PERMISSIONS`] permissions.
+    /// `NoAllocation` where the slot has none; `Family` where the peer is not of its family; `Conflict` where the
+    /// number is bound to another peer, or the peer to another number; `Capacity` where there would be more than
+    /// [`MAX_CHANNELS`] channels or [`MAX_PERMISSIONS`] permissions.
     ///
     /// [`MAX_CHANNELS`]: crate::MAX_CHANNELS
     /// [`MAX_PERMISSIONS`]: crate::MAX_PERMISSIONS

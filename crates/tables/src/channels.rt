@@ -76,8 +76,8 @@ impl Row<Addr> for Channel {
     }
 }
 
-/// The channels of an allocation: numbers with what they are bound to, in the order of their numbers and once more in that
-/// of their peers. Ended ones may still be among them. No two have one number or one peer.
+/// The channels of an allocation: numbers with what they are bound to, in the order of their numbers and once more in
+/// that of their peers. Ended ones may still be among them. No two have one number or one peer.
 #[derive(Drop)]
 pub(crate) struct Channels {
     rows: ArrayVec<Channel, MAX_CHANNELS>,
@@ -174,7 +174,8 @@ impl Channels {
         is_own && self.number_to(peer).is_none_or(|bound| number == bound)
     }
 
-    /// States that a number and a peer that may be bound may also be bound among the channels that are live at a moment.
+    /// States that a number and a peer that may be bound may also be bound among the channels that are live at a
+    /// moment.
     pub(crate) fn law_stay_free(&self, number: u16, peer: &Addr)
         requires { IsTrue (may_bind self.now number peer.now) }
         ensures { (t : ℕ) → IsTrue (may_bind (channels_at t self.now) number peer.now) }

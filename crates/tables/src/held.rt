@@ -80,15 +80,17 @@ impl Held {
         }
     }
 
-    /// Permits IP addresses from a moment on, all of them or none. Permissions that have ended are dropped if they are in the
-    /// way.
+    /// Permits IP addresses from a moment on, all of them or none. Permissions that have ended are dropped if they are
+    /// in the way.
     ///
     /// # Errors
-    /// `Family` where an address is not of the allocation's family; `Capacity` where there would be more than 64 permissions.
+    /// `Family` where an address is not of the allocation's family; `Capacity` where there would be more than
+    /// [`MAX_PERMISSIONS`](crate::MAX_PERMISSIONS) permissions.
     /// Nothing is changed then.
     fn permit(&mut self, ips: &[Addr], moment: u64) -> Result<(), TableError>
         requires latest { moment ≤ LATEST }
-        ensures follows { LeavesHeld (permit_held moment ips.now (live_held moment self.old)) moment self.old result self.new }
+        ensures follows { LeavesHeld (permit_held moment ips.now
+            (live_held moment self.old)) moment self.old result self.new }
         ensures held_at { (slot : ℕ) → IsHeldAt slot self.old → IsHeldAt slot self.new }
         ensures same { self.new.allocation ≡ self.old.allocation }
     {
@@ -106,16 +108,18 @@ impl Held {
         Ok(())
     }
 
-    /// Binds a channel number to a peer from a moment on, and permits the peer's IP address. Permissions and channels that have
-    /// ended are dropped if they are in the way.
+    /// Binds a channel number to a peer from a moment on, and permits the peer's IP address. Permissions and channels
+    /// that have ended are dropped if they are in the way.
     ///
     /// # Errors
-    /// `Family` where the peer is not of the allocation's family; `Conflict` where the number is bound to another peer, or the
-    /// peer to another number; `Capacity` where there would be more than 64 channels or permissions. Nothing is changed then.
+    /// `Family` where the peer is not of the allocation's family; `Conflict` where the number is bound to another peer,
+    /// or the peer to another number; `Capacity` where there would be too many channels or permissions. Nothing is
+    /// changed then.
     fn bind(&mut self, number: u16, peer: Addr, moment: u64) -> Result<(), TableError>
         requires range { IsChannelNumber number }
         requires latest { moment ≤ LATEST }
-        ensures follows { LeavesHeld (bind_held moment number peer (live_held moment self.old)) moment self.old result self.new }
+        ensures follows { LeavesHeld (bind_held moment number peer
+            (live_held moment self.old)) moment self.old result self.new }
         ensures held_at { (slot : ℕ) → IsHeldAt slot self.old → IsHeldAt slot self.new }
         ensures same { self.new.allocation ≡ self.old.allocation }
     {
@@ -125,12 +129,13 @@ impl Held {
         self.put_swept(number, peer, moment)
     }
 
-    /// As [`Held::bind`], with a copy from which what has ended is dropped. It is a function of its own, so that a change in
-    /// place makes no room for the copy.
+    /// As [`Held::bind`], with a copy from which what has ended is dropped. It is a function of its own, so that a
+    /// change in place makes no room for the copy.
     fn put_swept(&mut self, number: u16, peer: Addr, moment: u64) -> Result<(), TableError>
         requires range { IsChannelNumber number }
         requires latest { moment ≤ LATEST }
-        ensures follows { LeavesHeld (bind_held moment number peer (live_held moment self.old)) moment self.old result self.new }
+        ensures follows { LeavesHeld (bind_held moment number peer
+            (live_held moment self.old)) moment self.old result self.new }
         ensures held_at { (slot : ℕ) → IsHeldAt slot self.old → IsHeldAt slot self.new }
         ensures same { self.new.allocation ≡ self.old.allocation }
     {
@@ -140,7 +145,8 @@ impl Held {
         Ok(())
     }
 
-    /// Binds a channel number to a peer, and permits the peer's IP address, beside all that there is, also what has ended.
+    /// Binds a channel number to a peer, and permits the peer's IP address, beside all that there is, also what has
+    /// ended.
     ///
     /// # Errors
     /// Those of [`Held::bind`]. Nothing is changed then.
@@ -150,7 +156,8 @@ impl Held {
         ensures made { OnOk result (self.new ≡ with_binding moment number peer self.old) }
         ensures of { OnOk result (IsTrue (is_of_family self.old.allocation.family peer)) }
         ensures free { OnOk result ((t : ℕ) → IsTrue (may_bind (channels_at t self.old.channels) number peer)) }
-        ensures few { OnOk result ((len self.new.permissions ≤ MAX_PERMISSIONS) × (len self.new.channels ≤ MAX_CHANNELS)) }
+        ensures few { OnOk result ((len self.new.permissions ≤ MAX_PERMISSIONS)
+            × (len self.new.channels ≤ MAX_CHANNELS)) }
         ensures address { IsAddress peer }
         ensures refused { IfErr result (λ e. bind_held moment number peer self.old ≡ Err e) }
         ensures unchanged { OnErr result (self.new ≡ self.old) }

@@ -1,5 +1,5 @@
-//! The tables of the relay: allocations, their permissions and their channels, each with its end (RFC 8656, sections 6, 9
-//! and 12).
+//! The tables of the relay: allocations, their permissions and their channels, each with its end (RFC 8656, sections 6,
+//! 9 and 12).
 #![tactic(auto)]
 
 mod address;

@@ -11,8 +11,8 @@ impl Tables {
     ghost use Rattle.tables.specs.LookUps.{permissions_at_slot, channels_at_slot};
     ghost use Rattle.tables.specs.RowLists.{permissions_of, channels_of, ArePermissions, AreChannels};
 
-    /// Returns the permissions at a slot that are live at a moment, in the order of their IP addresses. A slot without an
-    /// allocation has none.
+    /// Returns the permissions at a slot that are live at a moment, in the order of their IP addresses. A slot without
+    /// an allocation has none.
     pub fn permissions(&self, slot: usize, now: u64) -> ArrayVec<Permission, MAX_PERMISSIONS>
         ensures permissions { permissions_of result.items ≡ permissions_at_slot slot (rows_at now self.now) }
         ensures distinct { ArePermissions result.items }
@@ -23,8 +23,8 @@ impl Tables {
         }
     }
 
-    /// Returns the channels at a slot that are live at a moment, in the order of their numbers. A slot without an allocation has
-    /// none.
+    /// Returns the channels at a slot that are live at a moment, in the order of their numbers. A slot without an
+    /// allocation has none.
     pub fn channels(&self, slot: usize, now: u64) -> ArrayVec<Channel, MAX_CHANNELS>
         ensures channels { channels_of result.items ≡ channels_at_slot slot (rows_at now self.now) }
         ensures distinct { AreChannels result.items }

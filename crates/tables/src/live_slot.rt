@@ -66,7 +66,7 @@ impl<'a> LiveSlot<'a> {
         &self.held.allocation
     }
 
-    /// Returns the peer that a channel is bound to. Of the slot's channels at most 7 are compared, of 64.
+    /// Returns the peer that a channel is bound to. Of the slot's channels at most 7 are compared.
     pub fn peer_of<C: Count>(&self, number: u16, keys: &mut C) -> Option<Addr>
         ensures peer { result ≡ bound_peer number self.now }
         ensures keys { C.count keys.new ≤ C.count keys.old + 7 }
@@ -79,8 +79,8 @@ impl<'a> LiveSlot<'a> {
             .map(|binding| binding.peer)
     }
 
-    /// Returns the channel that is bound to a peer: a number from [`FIRST_CHANNEL`] to [`LAST_CHANNEL`]. Of the slot's peers at most
-    /// 7 are compared, of 64.
+    /// Returns the channel that is bound to a peer: a number from [`FIRST_CHANNEL`] to [`LAST_CHANNEL`]. Of the slot's
+    /// peers at most 7 are compared.
     ///
     /// [`FIRST_CHANNEL`]: crate::FIRST_CHANNEL
     /// [`LAST_CHANNEL`]: crate::LAST_CHANNEL
@@ -92,8 +92,8 @@ impl<'a> LiveSlot<'a> {
         self.held.channels.number_at(&peer, self.moment, keys)
     }
 
-    /// Returns whether an IP address has a permission. The port is not looked at. Of the slot's addresses at most 7 are compared, of
-    /// 64.
+    /// Returns whether an IP address has a permission. The port is ignored. Of the slot's addresses at most 7 are
+    /// compared.
     pub fn permitted<C: Count>(&self, ip: Addr, keys: &mut C) -> bool
         ensures permitted { result ≡ is_some (permission_of ip self.now) }
         ensures keys { C.count keys.new ≤ C.count keys.old + 7 }

@@ -12,8 +12,8 @@ impl Tables {
     ghost use Rattle.tables.specs.Rows.{rows_at};
     ghost use Rattle.tables.specs.LookUps.{held_in, held_by, allocation_of, allocation_at, peer_of, channel_of, has_permission};
 
-    /// Returns what the slot of a client holds, which its allocation names, if that is live at a moment. Of the clients' addresses
-    /// at most 9 are compared, of 256.
+    /// Returns what the slot of a client holds, which its allocation names, if that is live at a moment. Of the
+    /// clients' addresses at most 9 are compared.
     pub fn live_of<C: Count>(&self, client: Addr, now: u64, keys: &mut C) -> Option<LiveSlot<'_>>
         ensures live { result ≡ held_by client (rows_at now self.now) }
         ensures at_slot { IfSome result (λ l. held_in (rows_at now self.now) l.allocation.slot ≡ Some l) }
@@ -23,7 +23,8 @@ impl Tables {
         self.live_by(&client, self.moment_at(now), keys)
     }
 
-    /// Returns what a slot holds, if its allocation is live at a moment. A slot that isn't there holds nothing. No key is compared.
+    /// Returns what a slot holds, if its allocation is live at a moment. A slot that isn't there holds nothing. No key
+    /// is compared.
     pub fn live_at(&self, slot: usize, now: u64) -> Option<LiveSlot<'_>>
         ensures { result ≡ held_in (rows_at now self.now) slot }
     {
@@ -53,7 +54,8 @@ impl Tables {
         Some(*live.allocation())
     }
 
-    /// Returns the peer that a channel of a slot is bound to at a moment. Of the slot's channels at most 7 are compared, of 64.
+    /// Returns the peer that a channel of a slot is bound to at a moment. Of the slot's channels at most 7 are
+    /// compared.
     pub fn peer_of<C: Count>(
         &self,
         slot: usize,
@@ -68,8 +70,8 @@ impl Tables {
         live.peer_of(number, keys)
     }
 
-    /// Returns the channel of a slot that is bound to a peer at a moment: a number from [`FIRST_CHANNEL`] to [`LAST_CHANNEL`]. Of the
-    /// slot's peers at most 7 are compared, of 64.
+    /// Returns the channel of a slot that is bound to a peer at a moment: a number from [`FIRST_CHANNEL`] to
+    /// [`LAST_CHANNEL`]. Of the slot's peers at most 7 are compared.
     ///
     /// [`FIRST_CHANNEL`]: crate::FIRST_CHANNEL
     /// [`LAST_CHANNEL`]: crate::LAST_CHANNEL
@@ -88,8 +90,8 @@ impl Tables {
         live.channel_of(peer, keys)
     }
 
-    /// Returns whether an IP address has a permission at a slot at a moment. The port is not looked at. Of the slot's addresses at
-    /// most 7 are compared, of 64.
+    /// Returns whether an IP address has a permission at a slot at a moment. The port is ignored. Of the slot's
+    /// addresses at most 7 are compared.
     pub fn permitted<C: Count>(&self, slot: usize, ip: Addr, now: u64, keys: &mut C) -> bool
         ensures permitted { result ≡ has_permission slot ip (rows_at now self.now) }
         ensures keys { C.count keys.new ≤ C.count keys.old + 7 }

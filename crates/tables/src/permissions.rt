@@ -17,7 +17,7 @@ pub const MAX_PERMISSIONS: usize = 64;
 /// The permission of an IP address.
 #[derive(Clone, Copy, Debug, PartialEq, Eq)]
 pub struct Permission {
-    /// The address, whose port is not looked at.
+    /// The address, whose port is ignored.
     pub ip: Addr,
     /// The first moment at which it isn't live any more, in seconds.
     pub end: u64,
@@ -46,8 +46,8 @@ impl Row<Addr> for Permission {
     }
 }
 
-/// The permissions of an allocation: IP addresses with the ends of their permissions, in ascending order. Ended ones may
-/// still be among them.
+/// The permissions of an allocation: IP addresses with the ends of their permissions, in ascending order. Ended ones
+/// may still be among them.
 #[derive(Drop)]
 pub(crate) struct Permissions {
     rows: ArrayVec<Permission, MAX_PERMISSIONS>,
@@ -113,8 +113,8 @@ impl Permissions {
         Permissions { rows }
     }
 
-    /// Returns whether there is room for permissions of these IP addresses beside all that there are, where each address that
-    /// has none takes a row, also one that comes twice.
+    /// Returns whether there is room for permissions of these IP addresses beside all that there are, where each
+    /// address that has none takes a row, also one that comes twice.
     pub(crate) fn have_room(&self, ips: &[Addr]) -> bool
         ensures { OnTrue result ((end : ℕ) → len (with_all self.now ips.now end) ≤ MAX_PERMISSIONS) }
     {

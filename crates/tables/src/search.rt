@@ -20,8 +20,8 @@ pub(crate) trait Row<K> {
         ensures { result ≡ order self.now key.now };
 }
 
-/// Returns the index of the row of a key, or else the index at which it would be inserted. `keys` counts one for each key that is
-/// compared: at most as many as the number of rows has binary digits.
+/// Returns the index of the row of a key, or else the index at which it would be inserted. `keys` counts one for each
+/// key that is compared: at most as many as the number of rows has binary digits.
 ///
 /// # Errors
 /// The index at which a row of the key would be inserted, where there is none.

@@ -17,8 +17,8 @@ use std::marker::{Brand, Model};
 /// The greatest number of slots, each of which has one allocation or none.
 pub const MAX_ALLOCATIONS: usize = 256;
 
-/// The tables: for each slot an allocation with its permissions and channels, or nothing. A row is live at a moment as long
-/// as the moment is smaller than its end, and its allocation is live. All memory is allocated by [`Tables::new`].
+/// The tables: for each slot an allocation with its permissions and channels, or nothing. A row is live at a moment as
+/// long as the moment is smaller than its end, and its allocation is live. All memory is allocated by [`Tables::new`].
 ///
 /// The model is the live rows at the greatest moment of the changes made. What is stored may have ended.
 /// See docs/DECISIONS.md, "The model of the tables".
@@ -199,8 +199,9 @@ impl Tables {
         self.clients = clients;
     }
 
-    /// Gives the user of each allocation another index, which `indices` has at the former one. The allocations of a user that
-    /// has none there end, with their permissions and channels; those of a user beyond its end go on. Nothing else changes.
+    /// Gives the user of each allocation another index, which `indices` has at the former one. The allocations of a
+    /// user that has none there end, with their permissions and channels; those of a user beyond its end continue.
+    /// Nothing else changes.
     /// See docs/DECISIONS.md, "Users that are replaced".
     pub fn replace_users(&mut self, indices: &[Option<usize>])
         ensures { self.new ≡ rows_of_users (index_in indices.now) self.old }

@@ -23,7 +23,8 @@ fn is_among(owners: &[[u8; 20]], owner: &[u8; 20]) -> bool
     owners.iter().any(|other| other == owner)
 }
 
-/// Returns the user that an allocation goes on with, where some owners have nothing any more; `None` where it is one of theirs.
+/// Returns the user that an allocation continues with, where some owners have nothing any more; `None` where it is one
+/// of theirs.
 fn user_unless(owners: &[[u8; 20]], allocation: &Allocation) -> Option<usize>
     ensures { result ≡ user_unless owners.now allocation.now }
 {
@@ -47,7 +48,7 @@ impl NewUsers<'_> {
     ghost use Rattle.std.specs.Prelude.{◌≡◌};
     ghost use Rattle.tables.specs.NewUsers.{user_after};
 
-    /// Returns the user that an allocation goes on with, if it goes on.
+    /// Returns the user that an allocation continues with, if it continues.
     fn user(&self, allocation: &Allocation) -> Option<usize>
         ensures { result ≡ user_after self.now allocation.now }
     {
