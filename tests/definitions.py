@@ -41,7 +41,7 @@ MOST_TESTS = 60
 MOST_EDITS = 8
 # how wide a line of code may be, and what may be wider: imports, tactics, texts, and bytes with their instruction
 MOST_COLUMNS = 120
-MAY_BE_WIDE = re.compile(r'\s*(ghost use |use |#\[tactic|.*"|0x\w\w, .* // )')
+MAY_BE_WIDE = re.compile(r'\s*(ghost use |use |#\[tactic|0x\w\w, .* // )|(?!\s*//).*"')
 # where the path of a datagram begins
 TURN = Function("relayd", "ServedEndpoints", "serve")
 # the folders of a crate that have them: the gate tries those of the first one, tests/wrong_bodies.py those of the second one
