@@ -1,5 +1,5 @@
 -- The bits after a prefix, as a shift shows them.
-use Rattle.std.proofs.Common.{◌≡◌, ℕ, ◌+◌, ◌-◌, ◌*◌, ◌%◌, ◌^◌, ◌<◌, ◌≤◌, ◌∙◌, arith, suc, zero, sym, ap, Option, Some, None, ◌==◌, unwrap_or}
+use Rattle.std.proofs.Common.{◌≡◌, ℕ, ◌+◌, ◌-◌, ◌*◌, ◌/◌, ◌%◌, ◌^◌, ◌<◌, ◌≤◌, ◌∙◌, arith, suc, zero, sym, ap, Option, Some, None, ◌==◌, unwrap_or}
 use Rattle.std.specs.Option.{SomeIff}
 use Rattle.std.proofs.lemmas.Bool.Decides.{nat_tests}
 use Rattle.std.proofs.lemmas.Grind.{common_steps}
@@ -31,3 +31,9 @@ host_shift w a b None few is = ap (λ (n : ℕ). n == 0) (sym (no_bits a w b few
 host_shift w a b (Some x) few is =
     ap (λ (n : ℕ). n == 0) (is.1 ∙ ap (λ v. (a * 2 ^ b) % 2 ^ v) (apart w b few) ∙ shifted a b (w - b))
     ∙ times (a % 2 ^ (w - b)) (2 ^ b) (pow_pos b)
+
+pub prefix_shift : (w a b : ℕ) (o : Option ℕ) → w ≤ 128 → a < 2 ^ 128 → SomeIff o (w - b < 128) (a / 2 ^ (w - b)) → unwrap_or o 0 ≡ a / 2 ^ (w - b)
+prefix_shift w a b None few fits is =
+    let most : w - b ≡ 128 = omega (arith, few, is) in
+    rw (most) (omega (arith, fits))
+prefix_shift w a b (Some x) few fits is = is.1

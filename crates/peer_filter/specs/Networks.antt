@@ -38,7 +38,17 @@ is_network_of Ipv4 (V4 address bits) = true
 is_network_of Ipv6 (V6 address bits) = true
 is_network_of family network = false
 
--- the bits of an address of the family, the network's address, and the bits of its prefix
+-- the bits of an address of a family
+abbrev pub address_width : Family → ℕ
+address_width Ipv4 = 32
+address_width Ipv6 = 128
+
+-- the network of a family with the first bits of an address
+abbrev pub network_in : Family → ℕ → ℕ → Network
+network_in Ipv4 address bits = V4 address bits
+network_in Ipv6 address bits = V6 address bits
+
+-- the bits of an address of the network's family, the network's address, and the bits of its prefix
 abbrev pub width_of : Network → ℕ
 width_of (V4 address bits) = 32
 width_of (V6 address bits) = 128

@@ -1,9 +1,7 @@
 //! Networks: the addresses that begin with the same bits.
 
-ghost use Rattle.std.specs.Prelude.{◌≡◌, ◌≤◌, ◌==◌, not, ℕ};
-ghost use Rattle.peer_filter.specs.Networks.{prefix, ip_number, host_bits, IsAccepted};
-ghost use Rattle.addresses.specs.declared.address.Addr.TheVariants as addresses;
-ghost use Rattle.peer_filter.specs.declared.network.Network.TheVariants as networks;
+ghost use Rattle.std.specs.Prelude.{◌≡◌, ◌<◌, ◌≤◌, ◌-◌, ◌%◌, ◌^◌, ◌==◌, not};
+ghost use Rattle.peer_filter.specs.Networks.{address_width, network_in, prefix, ip_number, IsAccepted};
 
 use crate::text::{bits_in, ipv4_in, ipv6_in};
 use attributes::{Addr, Family};
@@ -31,84 +29,65 @@ pub enum NetworkError {
     HostBits,
 }
 
-/// Returns the first `bits` bits of an IPv4 address, as a number.
-fn prefix_v4(address: u32, bits: u16) -> u32
-    ensures { result ≡ prefix 32 bits address }
+/// Returns the first `bits` bits of an address of `width` bits, as a number.
+fn prefix(width: u16, address: u128, bits: u16) -> u128
+    requires { width ≤ 128 }
+    ensures { result ≡ prefix width bits address }
 {
-    let rest = 32u16.saturating_sub(bits);
+    let rest = width.saturating_sub(bits);
     address.checked_shr(u32::from(rest)).unwrap_or(0)
 }
 
-/// Returns the first `bits` bits of an IPv6 address, as a number.
-fn prefix_v6(address: u128, bits: u16) -> u128
-    ensures { result ≡ prefix 128 bits address }
+/// Returns whether a bit after the first `bits` bits of an address of `width` bits is set.
+fn has_host_bits(width: u16, address: u128, bits: u16) -> bool
+    requires { (bits ≤ width) × (width ≤ 128) }
+    ensures { result ≡ not (address % 2 ^ (width - bits) == 0) }
 {
-    let rest = 128u16.saturating_sub(bits);
-    address.checked_shr(u32::from(rest)).unwrap_or(0)
+    let before = 128 - (width - bits);
+    address.checked_shl(u32::from(before)).unwrap_or(0) != 0
 }
 
-/// Returns whether a bit after the first `bits` bits of an IPv4 address is set.
-fn has_host_bits_v4(address: u32, bits: u16) -> bool
-    requires { bits ≤ 32 }
-    ensures { result ≡ not (host_bits (networks.V4 address bits) == 0) }
+/// Returns the number of bits of an address of a family.
+fn width_of(family: Family) -> u16
+    ensures { result ≡ address_width family }
 {
-    address.checked_shl(u32::from(bits)).unwrap_or(0) != 0
+    match family {
+        Family::Ipv4 => 32,
+        Family::Ipv6 => 128,
+    }
 }
 
-/// Makes a network of IPv4, of which no bit after the first `bits` may be set.
-fn network_v4(address: u32, bits: u16) -> Result<Network, NetworkError>
-    ensures { IsAccepted (networks.V4 address bits) result }
+/// Makes a network of a family, of which no bit after the first `bits` may be set.
+fn checked_network(family: Family, address: u128, bits: u16) -> Result<Network, NetworkError>
+    requires { address < 2 ^ address_width family }
+    ensures { IsAccepted (network_in family address bits) result }
 {
-    if bits > 32 {
+    let width = width_of(family);
+    if bits > width {
         return Err(NetworkError::Bits);
     }
-    if has_host_bits_v4(address, bits) {
+    if has_host_bits(width, address, bits) {
         return Err(NetworkError::HostBits);
     }
-    Ok(Network::V4 {
-        address,
-        bits: bits as u8,
-    })
-}
-
-/// Returns whether a bit after the first `bits` bits of an IPv6 address is set.
-fn has_host_bits_v6(address: u128, bits: u16) -> bool
-    requires { bits ≤ 128 }
-    ensures { result ≡ not (host_bits (networks.V6 address bits) == 0) }
-{
-    address.checked_shl(u32::from(bits)).unwrap_or(0) != 0
-}
-
-/// Makes a network of IPv6, of which no bit after the first `bits` may be set.
-fn network_v6(address: u128, bits: u16) -> Result<Network, NetworkError>
-    ensures { IsAccepted (networks.V6 address bits) result }
-{
-    if bits > 128 {
-        return Err(NetworkError::Bits);
+    let bits = bits as u8;
+    match family {
+        Family::Ipv4 => Ok(Network::V4 {
+            address: address as u32,
+            bits,
+        }),
+        Family::Ipv6 => Ok(Network::V6 { address, bits }),
     }
-    if has_host_bits_v6(address, bits) {
-        return Err(NetworkError::HostBits);
+}
+
+/// Returns the number of an IP address.
+#[tactic(auto, unfolding(crate::specs::Networks::ip_number))]
+fn ip_number(peer: &Addr) -> u128
+    ensures { result ≡ ip_number peer.now }
+{
+    match peer {
+        Addr::V4 { ip, .. } => u128::from(u32::from_be_bytes(*ip)),
+        Addr::V6 { ip, .. } => u128::from_be_bytes(*ip),
     }
-    Ok(Network::V6 {
-        address,
-        bits: bits as u8,
-    })
-}
-
-/// Returns the number of an IPv4 address.
-#[tactic(auto, unfolding(crate::specs::Networks::ip_number))]
-fn number_v4(ip: &[u8; 4]) -> u32
-    ensures { (port : ℕ) → result ≡ ip_number (addresses.V4 ip.now port) }
-{
-    u32::from_be_bytes(*ip)
-}
-
-/// Returns the number of an IPv6 address.
-#[tactic(auto, unfolding(crate::specs::Networks::ip_number))]
-fn number_v6(ip: &[u8; 16]) -> u128
-    ensures { (port : ℕ) → result ≡ ip_number (addresses.V6 ip.now port) }
-{
-    u128::from_be_bytes(*ip)
 }
 
 impl Network {
@@ -131,9 +110,9 @@ impl Network {
             return Err(NetworkError::NotANetwork);
         };
         match ipv4_in(address) {
-            Some(number) => network_v4(number, bits),
+            Some(number) => checked_network(Family::Ipv4, u128::from(number), bits),
             None => match ipv6_in(address) {
-                Some(number) => network_v6(number, bits),
+                Some(number) => checked_network(Family::Ipv6, number, bits),
                 None => Err(NetworkError::NotANetwork),
             },
         }
@@ -162,16 +141,12 @@ impl Network {
     pub fn contains(&self, peer: &Addr) -> bool
         ensures { result ≡ network_contains self.now peer.now }
     {
-        match (self, peer) {
-            (Network::V4 { address, bits }, Addr::V4 { ip, .. }) => {
-                let bits = u16::from(*bits);
-                prefix_v4(*address, bits) == prefix_v4(number_v4(ip), bits)
-            }
-            (Network::V6 { address, bits }, Addr::V6 { ip, .. }) => {
-                let bits = u16::from(*bits);
-                prefix_v6(*address, bits) == prefix_v6(number_v6(ip), bits)
-            }
-            _ => false,
-        }
+        let (width, address, bits) = match (self, peer) {
+            (Network::V4 { address, bits }, Addr::V4 { .. }) => (32, u128::from(*address), *bits),
+            (Network::V6 { address, bits }, Addr::V6 { .. }) => (128, *address, *bits),
+            _ => return false,
+        };
+        let bits = u16::from(bits);
+        prefix(width, address, bits) == prefix(width, ip_number(peer), bits)
     }
 }
