@@ -56,7 +56,7 @@ impl Tables {
             lifetime,
             end: moment + u64::from(lifetime),
         };
-        self.admit(
+        self.insert_held(
             slot,
             moment,
             Held {

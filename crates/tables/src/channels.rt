@@ -4,7 +4,7 @@ ghost use Rattle.std.specs.Prelude.{◌≡◌};
 
 use crate::address::is_same;
 use crate::refusal::TableError;
-use crate::search::{Row, filtered, put, row_of};
+use crate::search::{Row, filtered, insert, row_of};
 use arrayvec::ArrayVec;
 use attributes::{Addr, law_is_address};
 use basics::steps::{Count, Uncounted};
@@ -187,18 +187,18 @@ impl Channels {
     ///
     /// # Errors
     /// `Capacity` where there would be more than [`MAX_CHANNELS`]. Nothing is changed then.
-    pub(crate) fn put(&mut self, number: u16, binding: Binding) -> Result<(), TableError>
+    pub(crate) fn insert(&mut self, number: u16, binding: Binding) -> Result<(), TableError>
         requires range { IsChannelNumber number }
         requires free { IsTrue (may_bind self.old number binding.peer) }
-        ensures put { OnOk result (self.new ≡ insert self.old number binding) }
+        ensures inserted { OnOk result (self.new ≡ insert self.old number binding) }
         ensures few { OnOk result (len self.new ≤ MAX_CHANNELS) }
         ensures why { IfErr result (λ e. e ≡ Capacity) }
         ensures full { OnErr result (MAX_CHANNELS < len (insert self.old number binding)) }
         ensures unchanged { OnErr result (self.new ≡ self.old) }
     {
         let channel = Channel { number, binding };
-        put(&mut self.rows, &number, channel)?;
-        let _ = put(&mut self.by_peer, &binding.peer, channel);
+        insert(&mut self.rows, &number, channel)?;
+        let _ = insert(&mut self.by_peer, &binding.peer, channel);
         Ok(())
     }
 }

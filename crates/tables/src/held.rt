@@ -99,11 +99,11 @@ impl Held {
         }
         let end = moment + PERMISSION_LIFETIME;
         if self.permissions.have_room(ips) {
-            self.permissions.put_each(ips, end);
+            self.permissions.insert_each(ips, end);
             return Ok(());
         }
         let mut permissions = self.permissions.at(moment);
-        permissions.put_all(ips, end)?;
+        permissions.insert_all(ips, end)?;
         self.permissions = permissions;
         Ok(())
     }
@@ -123,15 +123,15 @@ impl Held {
         ensures held_at { (slot : ℕ) → IsHeldAt slot self.old → IsHeldAt slot self.new }
         ensures same { self.new.allocation ≡ self.old.allocation }
     {
-        if self.put(number, peer, moment).is_ok() {
+        if self.insert(number, peer, moment).is_ok() {
             return Ok(());
         }
-        self.put_swept(number, peer, moment)
+        self.insert_after_sweep(number, peer, moment)
     }
 
     /// As [`Held::bind`], with a copy from which what has ended is dropped. It is a function of its own, so that a
     /// change in place makes no room for the copy.
-    fn put_swept(&mut self, number: u16, peer: Addr, moment: u64) -> Result<(), TableError>
+    fn insert_after_sweep(&mut self, number: u16, peer: Addr, moment: u64) -> Result<(), TableError>
         requires range { IsChannelNumber number }
         requires latest { moment ≤ LATEST }
         ensures follows { LeavesHeld (bind_held moment number peer
@@ -140,7 +140,7 @@ impl Held {
         ensures same { self.new.allocation ≡ self.old.allocation }
     {
         let mut left = self.at(moment);
-        left.put(number, peer, moment)?;
+        left.insert(number, peer, moment)?;
         *self = left;
         Ok(())
     }
@@ -150,7 +150,7 @@ impl Held {
     ///
     /// # Errors
     /// Those of [`Held::bind`]. Nothing is changed then.
-    fn put(&mut self, number: u16, peer: Addr, moment: u64) -> Result<(), TableError>
+    fn insert(&mut self, number: u16, peer: Addr, moment: u64) -> Result<(), TableError>
         requires range { IsChannelNumber number }
         requires latest { moment ≤ LATEST }
         ensures made { OnOk result (self.new ≡ with_binding moment number peer self.old) }
@@ -174,9 +174,9 @@ impl Held {
         }
         self.channels.law_stay_free(number, &peer);
         let end = moment + CHANNEL_LIFETIME;
-        self.channels.put(number, Binding { peer, end })?;
+        self.channels.insert(number, Binding { peer, end })?;
         self.permissions
-            .put_each(&[peer], moment + PERMISSION_LIFETIME);
+            .insert_each(&[peer], moment + PERMISSION_LIFETIME);
         Ok(())
     }
 }

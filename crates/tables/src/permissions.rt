@@ -1,7 +1,7 @@
 //! The permissions of an allocation (RFC 8656, section 9).
 
 use crate::refusal::TableError;
-use crate::search::{Row, filtered, has_room, put, row_of};
+use crate::search::{Row, filtered, has_room, insert, row_of};
 use arrayvec::ArrayVec;
 use attributes::Addr;
 use basics::steps::{Count, Uncounted};
@@ -136,38 +136,38 @@ impl Permissions {
     ///
     /// # Errors
     /// `Capacity` where there would be more than [`MAX_PERMISSIONS`]. Nothing is changed then.
-    pub(crate) fn put(&mut self, ip: Addr, end: u64) -> Result<(), TableError>
-        ensures put { OnOk result (self.new ≡ insert self.old (ip_of ip) end) }
+    pub(crate) fn insert(&mut self, ip: Addr, end: u64) -> Result<(), TableError>
+        ensures inserted { OnOk result (self.new ≡ insert self.old (ip_of ip) end) }
         ensures few { OnOk result (len self.new ≤ MAX_PERMISSIONS) }
         ensures why { IfErr result (λ e. e ≡ Capacity) }
         ensures full { OnErr result (MAX_PERMISSIONS < len (insert self.old (ip_of ip) end)) }
         ensures unchanged { OnErr result (self.new ≡ self.old) }
     {
-        put(&mut self.rows, &ip, Permission { ip, end })
+        insert(&mut self.rows, &ip, Permission { ip, end })
     }
 
     /// Adds permissions for IP addresses, or gives them a new end.
     ///
     /// # Errors
     /// `Capacity` where there would be more than [`MAX_PERMISSIONS`].
-    pub(crate) fn put_all(&mut self, ips: &[Addr], end: u64) -> Result<(), TableError>
+    pub(crate) fn insert_all(&mut self, ips: &[Addr], end: u64) -> Result<(), TableError>
         requires { len self.old ≤ MAX_PERMISSIONS }
-        ensures put { OnOk result (self.new ≡ with_all self.old ips.now end) }
+        ensures inserted { OnOk result (self.new ≡ with_all self.old ips.now end) }
         ensures few { OnOk result (len self.new ≤ MAX_PERMISSIONS) }
         ensures why { IfErr result (λ e. e ≡ Capacity) }
         ensures full { OnErr result (MAX_PERMISSIONS < len (with_all self.old ips.now end)) }
     {
         for ip in ips {
-            self.put(*ip, end)?;
+            self.insert(*ip, end)?;
         }
         Ok(())
     }
 
-    /// As [`Permissions::put_all`], where there is room for all of them.
-    pub(crate) fn put_each(&mut self, ips: &[Addr], end: u64)
+    /// As [`Permissions::insert_all`], where there is room for all of them.
+    pub(crate) fn insert_each(&mut self, ips: &[Addr], end: u64)
         requires { len (with_all self.old ips.now end) ≤ MAX_PERMISSIONS }
         ensures { self.new ≡ with_all self.old ips.now end }
     {
-        let _ = self.put_all(ips, end);
+        let _ = self.insert_all(ips, end);
     }
 }

@@ -80,13 +80,13 @@ pub(crate) fn has_room<K, R: Row<K> + Copy, const N: usize>(rows: &ArrayVec<R, N
 ///
 /// # Errors
 /// `Capacity` where there would be more than `N` rows. Nothing is changed then.
-pub(crate) fn put<K, R: Row<K> + Copy, const N: usize>(
+pub(crate) fn insert<K, R: Row<K> + Copy, const N: usize>(
     rows: &mut ArrayVec<R, N>,
     key: &K,
     row: R,
 ) -> Result<(), TableError>
     requires { AreAscending (λ row. R.order row key.now) rows.old.items }
-    ensures put { OnOk result (rows.new.items ≡ put_row (λ row. R.order row key.now) row rows.old.items) }
+    ensures inserted { OnOk result (rows.new.items ≡ put_row (λ row. R.order row key.now) row rows.old.items) }
     ensures few { OnOk result (length rows.new.items ≤ N) }
     ensures why { IfErr result (λ e. e ≡ Capacity) }
     ensures full { OnErr result (N < length (put_row (λ row. R.order row key.now) row rows.old.items)) }

@@ -6,7 +6,7 @@ use crate::clients::{Client, sweep, with_slots};
 use crate::held::Held;
 use crate::live_slot::LiveSlot;
 use crate::moment::moment_of;
-use crate::search::{put, row_of};
+use crate::search::{insert, row_of};
 use crate::users::{NewUsers, replace_each_user};
 use arrayvec::ArrayVec;
 use attributes::Addr;
@@ -179,7 +179,7 @@ impl Tables {
     }
 
     /// Puts into a free slot what it holds for a new client from a moment on, the greatest so far.
-    pub(crate) fn admit(&mut self, slot: usize, moment: u64, held: Held)
+    pub(crate) fn insert_held(&mut self, slot: usize, moment: u64, held: Held)
         requires inside { slot < length self.old.slots }
         requires held_at { IsHeldAt slot held }
         requires later { self.old.moment ≤ moment }
@@ -193,7 +193,7 @@ impl Tables {
         let address = held.allocation.client;
         sweep(&mut self.slots, moment);
         let mut clients = with_slots(&self.clients, &self.slots);
-        let _ = put(&mut clients, &address, Client { address, slot });
+        let _ = insert(&mut clients, &address, Client { address, slot });
         self.moment = moment;
         self.slots[slot] = Some(held);
         self.clients = clients;

@@ -4,10 +4,10 @@ use Rattle.std.proofs.lemmas.List.Edits.{length-insert}
 use Rattle.tables.specs.Search.{IsFoundAt, IsMissingAt}
 use Rattle.tables.proofs.Lists.{written}
 use Rattle.tables.proofs.Searches.{row-found, row-missing}
-use Rattle.tables.proofs.search.put.Goals as goal
+use Rattle.tables.proofs.search.insert.Goals as goal
 
-pub returns-in-Ok-clause-put : goal.returns-in-Ok-clause-put
-returns-in-Ok-clause-put g c =
+pub returns-in-Ok-clause-inserted : goal.returns-in-Ok-clause-inserted
+returns-in-Ok-clause-inserted g c =
     let order : g.row.R.Denot → Ordering = λ row. g.R.Row.order row c.args.key.now in
     let rows = c.args.rows.now.items in
     let at = subst (λ s. IsFoundAt order s c.in-Ok.index) c.as_slice.ensures.value c.in-Ok.ensures.place in
@@ -22,8 +22,8 @@ returns-then-is_full-clause-full g c =
     let more = ap length ((row-missing order rows c.in-Err.index none).1 c.args.row) ∙ length-insert rows c.in-Err.index c.args.row none.inside in
     omega (arith, more, eqb-true _ _ (sym c.is_full.ensures.value ∙ c.if-is_full.true))
 
-pub returns-else-is_full-clause-put : goal.returns-else-is_full-clause-put
-returns-else-is_full-clause-put g c =
+pub returns-else-is_full-clause-inserted : goal.returns-else-is_full-clause-inserted
+returns-else-is_full-clause-inserted g c =
     let order : g.row.R.Denot → Ordering = λ row. g.R.Row.order row c.args.key.now in
     let rows = c.args.rows.now.items in
     let none = subst (λ s. IsMissingAt order s c.in-Err.index) c.as_slice.ensures.value c.in-Err.ensures.place in

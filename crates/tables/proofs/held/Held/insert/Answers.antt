@@ -1,7 +1,7 @@
 use Rattle.std.proofs.Common.{◌+◌, sym, ◌∙◌}
 use Rattle.tables.specs.declared.permissions.TheConstants.{PERMISSION_LIFETIME}
 use Rattle.tables.proofs.SlotChanges.{bind-full}
-use Rattle.tables.proofs.held.Held.put.Goals as goal
+use Rattle.tables.proofs.held.Held.insert.Goals as goal
 
 pub returns-then-not-has_room_for-clause-refused : goal.returns-then-not-has_room_for-clause-refused
 returns-then-not-has_room_for-clause-refused c =

@@ -2,7 +2,7 @@ use Rattle.std.proofs.Common.{◌≡◌, ◌≤◌, drop}
 use Rattle.std.specs.FinMap.{len}
 use Rattle.tables.specs.Permissions.{with_all}
 use Rattle.tables.specs.declared.permissions.TheConstants.{MAX_PERMISSIONS}
-use Rattle.tables.proofs.permissions.Permissions.put_all.Given as goal
+use Rattle.tables.proofs.permissions.Permissions.insert_all.Given as goal
 
 abbrev pub invariant-loop-ip : goal.invariant-loop-ip
 invariant-loop-ip l =

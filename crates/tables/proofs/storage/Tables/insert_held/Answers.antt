@@ -11,10 +11,10 @@ use Rattle.tables.specs.declared.clients.Client.{Client}
 use Rattle.tables.proofs.ClientRows.{by_client, searchable_by_client, swept_are, with_slots_in, few-admitted, are-admitted, slots_at-admitted, swept-well_formed}
 use Rattle.tables.proofs.Lists.{made_where_room}
 use Rattle.tables.proofs.Slots.{live-stored, held_in-stored, held_by-stored}
-use Rattle.tables.proofs.storage.Tables.admit.Goals as goal
+use Rattle.tables.proofs.storage.Tables.insert_held.Goals as goal
 
-pub put-requires : goal.put-requires
-put-requires c =
+pub insert-requires : goal.insert-requires
+insert-requires c =
     let t = c.args.moment in
     let client = c.args.held.allocation.client in
     let slots = c.self.inside.slots.items in
@@ -38,12 +38,12 @@ invariant_of-self c =
     let all = put_row (by_client client) row c.with_slots-clients.result.items in
     let few : length all ≤ 256 =
     omega (arith, ap (λ rows. length (put_row (by_client client) row rows)) left, few-admitted t slots clients c.self.invariant.listed slot c.args.held within free none, c.self.invariant.rows.few) in
-    let made = made_where_room c.put.result (length all) 256 few c.put.ensures.put c.put.ensures.full in
+    let made = made_where_room c.insert.result (length all) 256 few c.insert.ensures.inserted c.insert.ensures.full in
     record {
       rows = subst (λ s. AreWellFormed (record { moment = t; slots = set s slot (Some c.args.held) })) (sym c.sweep.ensures)
           (set-well_formed t slot (Some c.args.held) (record { moment = t; slots = map (left_at t) slots }) c.requires.latest (swept-well_formed c.self.inside.moment t slots c.requires.latest c.self.invariant.rows)
           (λ held same. subst (IsHeldAt slot) (same_Some _ _ same) c.requires.held_at));
-      listed = subst (λ s. AreClients (set s slot (Some c.args.held)) c.put.new.rows.items) (sym c.sweep.ensures)
+      listed = subst (λ s. AreClients (set s slot (Some c.args.held)) c.insert.new.rows.items) (sym c.sweep.ensures)
           (subst (AreClients (set (map (left_at t) slots) slot (Some c.args.held))) (sym (made ∙ ap (put_row (by_client client) row) left))
           (are-admitted t slots clients c.self.invariant.listed slot c.args.held within free none));
     }
