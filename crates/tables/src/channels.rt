@@ -4,7 +4,7 @@ ghost use Rattle.std.specs.Prelude.{◌≡◌};
 
 use crate::address::is_same;
 use crate::refusal::TableError;
-use crate::search::{Row, filtered, insert, row_of};
+use crate::search::{Keyed, filtered, insert, row_of};
 use arrayvec::ArrayVec;
 use attributes::{Addr, law_is_address};
 use basics::steps::{Count, Uncounted};
@@ -54,7 +54,7 @@ impl Default for Channel {
     }
 }
 
-impl Row<u16> for Channel {
+impl Keyed<u16> for Channel {
     ghost use Rattle.std.specs.Ordering.{nat_cmp};
 
     ghost order = { λ row number. nat_cmp row.number number };
@@ -64,7 +64,7 @@ impl Row<u16> for Channel {
     }
 }
 
-impl Row<Addr> for Channel {
+impl Keyed<Addr> for Channel {
     ghost use Rattle.addresses.specs.AddressOrder.{order_by_parts};
 
     ghost order = { λ row peer. order_by_parts row.binding.peer peer };

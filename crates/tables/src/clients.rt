@@ -4,7 +4,7 @@ ghost use Rattle.std.specs.Prelude.{◌≡◌, ◌<◌, None, filter, if◌then�
 ghost use Rattle.tables.specs.Stored.{left_at, stored_at};
 
 use crate::held::Held;
-use crate::search::{Row, filtered};
+use crate::search::{Keyed, filtered};
 use crate::storage::MAX_ALLOCATIONS;
 use arrayvec::ArrayVec;
 use attributes::{Addr, law_is_address};
@@ -27,7 +27,7 @@ impl Default for Client {
     }
 }
 
-impl Row<Addr> for Client {
+impl Keyed<Addr> for Client {
     ghost use Rattle.addresses.specs.AddressOrder.{order_by_parts};
 
     ghost order = { λ row client. order_by_parts row.address client };

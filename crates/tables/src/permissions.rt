@@ -1,7 +1,7 @@
 //! The permissions of an allocation (RFC 8656, section 9).
 
 use crate::refusal::TableError;
-use crate::search::{Row, filtered, has_room, insert, row_of};
+use crate::search::{Keyed, filtered, has_room, insert, row_of};
 use arrayvec::ArrayVec;
 use attributes::Addr;
 use basics::steps::{Count, Uncounted};
@@ -35,7 +35,7 @@ impl Default for Permission {
     }
 }
 
-impl Row<Addr> for Permission {
+impl Keyed<Addr> for Permission {
     ghost use Rattle.addresses.specs.Addresses.{ip_of};
     ghost use Rattle.addresses.specs.AddressOrder.{ip_order};
 

@@ -12,7 +12,7 @@ use basics::steps::{Count, Uncounted};
 use std::cmp::Ordering;
 
 /// A row of a list that is in the order of keys of the type `K`.
-pub(crate) trait Row<K> {
+pub(crate) trait Keyed<K> {
     ghost order: { Self → K → Ordering };
 
     /// Compares the row's key with a key.
@@ -25,7 +25,7 @@ pub(crate) trait Row<K> {
 ///
 /// # Errors
 /// The index at which a row of the key would be inserted, where there is none.
-pub(crate) fn search<K, R: Row<K>, C: Count>(
+pub(crate) fn search<K, R: Keyed<K>, C: Count>(
     rows: &[R],
     key: &K,
     keys: &mut C,
@@ -49,7 +49,7 @@ pub(crate) fn search<K, R: Row<K>, C: Count>(
 }
 
 /// Returns the row of a key, if there is one. `keys` counts as in [`search`].
-pub(crate) fn row_of<K, R: Row<K> + Copy, C: Count, const N: usize>(
+pub(crate) fn row_of<K, R: Keyed<K> + Copy, C: Count, const N: usize>(
     rows: &ArrayVec<R, N>,
     key: &K,
     keys: &mut C,
@@ -66,7 +66,10 @@ pub(crate) fn row_of<K, R: Row<K> + Copy, C: Count, const N: usize>(
 }
 
 /// Returns whether there is room for a row of a key.
-pub(crate) fn has_room<K, R: Row<K> + Copy, const N: usize>(rows: &ArrayVec<R, N>, key: &K) -> bool
+pub(crate) fn has_room<K, R: Keyed<K> + Copy, const N: usize>(
+    rows: &ArrayVec<R, N>,
+    key: &K,
+) -> bool
     requires { AreAscending (λ row. R.order row key.now) rows.now.items }
     ensures { (row : R) → result ≡ nat_le (length (put_row (λ row. R.order row key.now) row rows.now.items)) N }
 {
@@ -80,7 +83,7 @@ pub(crate) fn has_room<K, R: Row<K> + Copy, const N: usize>(rows: &ArrayVec<R, N
 ///
 /// # Errors
 /// `Capacity` where there would be more than `N` rows. Nothing is changed then.
-pub(crate) fn insert<K, R: Row<K> + Copy, const N: usize>(
+pub(crate) fn insert<K, R: Keyed<K> + Copy, const N: usize>(
     rows: &mut ArrayVec<R, N>,
     key: &K,
     row: R,

@@ -9,7 +9,7 @@ loop-low-preserved-in-Less g c =
     let made = g.C.Count.count c.loop-low.keys in
     let middle = low + (high - low) / 2 in
     let within : middle < length c.args.rows.now = omega (arith, c.loop-low-test.true, c.loop-low.invariant.within) in
-    let order : g.row.R.Denot → Ordering = λ row. g.R.Row.order row c.args.key.now in
+    let order : g.row.R.Denot → Ordering = λ row. g.R.Keyed.order row c.args.key.now in
     record {
       within = c.loop-low.invariant.within;
       apart = omega (arith, c.loop-low-test.true);
@@ -25,7 +25,7 @@ loop-low-preserved g c =
     let made = g.C.Count.count c.loop-low.keys in
     let middle = low + (high - low) / 2 in
     let within : middle < length c.args.rows.now = omega (arith, c.loop-low-test.true, c.loop-low.invariant.within) in
-    let order : g.row.R.Denot → Ordering = λ row. g.R.Row.order row c.args.key.now in
+    let order : g.row.R.Denot → Ordering = λ row. g.R.Keyed.order row c.args.key.now in
     record {
       within = omega (arith, within);
       apart = omega arith;
