@@ -12,7 +12,7 @@ use Rattle.absstate.specs.declared.abstract_state.AbstractValue.{AbstractValue}
 use Rattle.absstate.specs.declared.abstract_state.AbstractValue.TheVariants.{Nothing, Scalar, Ctx, Stack, Data, End}
 use Rattle.absstate.specs.declared.abstract_state.Anchor.{Anchor}
 use Rattle.absstate.specs.declared.abstract_state.Anchor.TheVariants.{First, Made}
-use Rattle.absstate.specs.declared.abstract_state.Marks.{Marks}
+use Rattle.absstate.specs.declared.abstract_state.InitialisedBytes.{InitialisedBytes}
 use Rattle.absstate.specs.declared.abstract_state.AbsState.{AbsState}
 
 abbrev pub abstract_at : {D : Type 0} → List (AbstractValue D) → Reg → AbstractValue D
@@ -31,33 +31,33 @@ unfoldable pub no_groups : {D : Type 0} → List (AbstractValue D)
 no_groups = replicate GROUPS Nothing
 
 -- no stack byte is set
-unfoldable pub no_marks : Marks
+unfoldable pub no_marks : InitialisedBytes
 no_marks = record { cells = replicate STACK_BYTES false }
 
 -- whether a stack byte is set, by its index from the first one
-abbrev pub is_marked : Marks → ℕ → Bool
+abbrev pub is_marked : InitialisedBytes → ℕ → Bool
 is_marked m i = slice_index_or m.cells i false
 
 -- whether n bytes from an index on are set
-abbrev pub are_marked : Marks → ℕ → ℕ → Bool
+abbrev pub are_marked : InitialisedBytes → ℕ → ℕ → Bool
 are_marked m i zero = true
 are_marked m i (suc n) = is_marked m i && are_marked m (suc i) n
 
 -- the marks with one byte more set
-abbrev pub mark : Marks → ℕ → Marks
+abbrev pub mark : InitialisedBytes → ℕ → InitialisedBytes
 mark m i = record { cells = slice_set m.cells i true }
 
 -- the marks with n bytes from an index on set
-abbrev pub marks_from : Marks → ℕ → ℕ → Marks
+abbrev pub marks_from : InitialisedBytes → ℕ → ℕ → InitialisedBytes
 marks_from m i zero = m
 marks_from m i (suc n) = marks_from (mark m i) (suc i) n
 
 -- the marks with one byte less set
-abbrev pub unmark : Marks → ℕ → Marks
+abbrev pub unmark : InitialisedBytes → ℕ → InitialisedBytes
 unmark m i = record { cells = slice_set m.cells i false }
 
 -- the marks without n bytes from an index on
-abbrev pub unmarked_from : Marks → ℕ → ℕ → Marks
+abbrev pub unmarked_from : InitialisedBytes → ℕ → ℕ → InitialisedBytes
 unmarked_from m i zero = m
 unmarked_from m i (suc n) = unmarked_from (unmark m i) (suc i) n
 

@@ -5,7 +5,7 @@ use Rattle.std.specs.List.{flat_map}
 use Rattle.interval.specs.Domains.{Operations}
 use Rattle.absstate.specs.AbstractStates.{no_groups}
 use Rattle.absstate.specs.Covers.{covers, have_one_anchor}
-use Rattle.absstate.specs.MarkWords.{words_of, marks_of}
+use Rattle.absstate.specs.InitialisedWords.{words_of, marks_of}
 use Rattle.absstate.specs.declared.abstract_state.AbstractValue.{AbstractValue}
 use Rattle.absstate.specs.declared.abstract_state.AbstractValue.TheVariants.{Nothing}
 use Rattle.absstate.specs.declared.abstract_state.AbsState.{AbsState}

@@ -4,7 +4,7 @@ use Rattle.std.specs.Int.{w32, w64, rotate_left, cast_unsigned}
 use Rattle.interval.specs.Domains.{Operations}
 use Rattle.interval.specs.declared.domain.Bounds.{Bounds}
 use Rattle.absstate.specs.AbstractStates.{proved_from}
-use Rattle.absstate.specs.MarkWords.{words_of}
+use Rattle.absstate.specs.InitialisedWords.{words_of}
 use Rattle.absstate.specs.declared.abstract_state.AbstractValue.{AbstractValue}
 use Rattle.absstate.specs.declared.abstract_state.AbstractValue.TheVariants.{Nothing, Scalar, Ctx, Stack, Data, End}
 use Rattle.absstate.specs.declared.abstract_state.AbsState.{AbsState}

@@ -173,18 +173,18 @@ fn raise<D: Copy>(values: &mut [AbstractValue<D>], id: u32, least: i64)
     }
 }
 
-/// The stack bytes that are set: a mark for each, from the first byte on.
+/// The stack bytes that are initialised: a mark for each, from the first byte on.
 #[derive(Clone, Copy, Debug, PartialEq, Eq)]
-pub struct Marks {
+pub struct InitialisedBytes {
     cells: [bool; STACK_BYTES],
 }
 
-impl Marks {
+impl InitialisedBytes {
     /// Returns the marks of no byte.
-    pub fn none() -> Marks
+    pub fn none() -> InitialisedBytes
         ensures { result ≡ no_marks }
     {
-        Marks {
+        InitialisedBytes {
             cells: [false; STACK_BYTES],
         }
     }
@@ -247,7 +247,7 @@ impl Marks {
     }
 
     /// Returns whether each byte that is set is also set in other marks.
-    pub(crate) fn covers(&self, other: &Marks) -> bool
+    pub(crate) fn covers(&self, other: &InitialisedBytes) -> bool
         ensures { result ≡ covers_marks self.now.cells other.now.cells }
     {
         covers_marks(&self.cells, &other.cells)
@@ -278,7 +278,7 @@ pub const VALUES: usize = REGISTERS + GROUPS;
 #[derive(Debug, PartialEq, Eq)]
 pub struct AbsState<D> {
     pub values: [AbstractValue<D>; VALUES],
-    pub marks: Marks,
+    pub marks: InitialisedBytes,
     pub proved: i64,
 }
 
@@ -304,7 +304,7 @@ impl<D: Copy> AbsState<D> {
         values[10] = AbstractValue::Stack(0);
         AbsState {
             values,
-            marks: Marks::none(),
+            marks: InitialisedBytes::none(),
             proved: 0,
         }
     }

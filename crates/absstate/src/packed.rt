@@ -11,7 +11,7 @@ ghost use Rattle.absstate.specs.declared.abstract_state.AbstractValue.TheVariant
 use crate::abstract_state::{AbsState, AbstractValue, Anchor, REGISTERS, VALUES};
 use crate::chunk::{Chunk, push_chunks};
 use crate::covering::{covers_value, first_unlinked, proves_no_more, values_of};
-use crate::mark_words::{MarkWords, first_outside};
+use crate::initialised_words::{InitialisedWords, first_outside};
 use crate::part::Part;
 use interval::Domain;
 use std::alloc::{AllocError, Global};
@@ -23,14 +23,14 @@ use std::marker::Model;
 pub struct PackedState<D> {
     registers: [AbstractValue<D>; REGISTERS],
     chunks: Vec<Chunk<D>>,
-    words: MarkWords,
+    words: InitialisedWords,
     proved: i64,
 }
 
 impl<D> Model for PackedState<D> {
     ghost use Rattle.std.specs.Prelude.{◌≡◌, ◌≤◌, length};
     ghost use Rattle.semantics.specs.declared.limits.TheConstants.{STACK_BYTES, GROUPS};
-    ghost use Rattle.absstate.specs.MarkWords.{words_of, marks_of};
+    ghost use Rattle.absstate.specs.InitialisedWords.{words_of, marks_of};
     ghost use Rattle.absstate.specs.Packing.{joined, unpacked};
     ghost use Rattle.absstate.specs.declared.abstract_state.AbsState.{AbsState};
 
@@ -138,7 +138,7 @@ impl<D: Domain> PackedState<D> {
     ghost use Rattle.std.specs.Prelude.{◌≡◌, None, Some, true, IfNone, IfSome};
     ghost use Rattle.semantics.specs.Machine.{State};
     ghost use Rattle.absstate.specs.Covers.{covers};
-    ghost use Rattle.absstate.specs.MarkWords.{words_of};
+    ghost use Rattle.absstate.specs.InitialisedWords.{words_of};
     ghost use Rattle.absstate.specs.Membership.{Loose, IsMember};
     ghost use Rattle.absstate.specs.Packing.{Differs};
 
@@ -176,7 +176,7 @@ impl<D: Domain> PackedState<D> {
 
     /// Returns the part in which a state, whose marks are these words, is found to differ from this one, which doesn't
     /// cover it. `None` is a state that it covers: each member of that one is a member of this one.
-    pub fn difference(&self, other: &AbsState<D>, words: &MarkWords) -> Option<Part<D>>
+    pub fn difference(&self, other: &AbsState<D>, words: &InitialisedWords) -> Option<Part<D>>
         requires { words.now ≡ words_of other.now.marks.cells }
         ensures none { IfNone result (covers D.ops self.now other.now ≡ true) }
         ensures members { result ≡ None → (s : State) → IsMember D.Member Loose other.now s
@@ -217,10 +217,10 @@ impl<D: Domain> PackedState<D> {
 
 impl<D: Copy> AbsState<D> {
     ghost use Rattle.std.specs.Prelude.{◌≡◌, IfOk};
-    ghost use Rattle.absstate.specs.MarkWords.{words_of};
+    ghost use Rattle.absstate.specs.InitialisedWords.{words_of};
 
     /// Returns the marks of the stack as words: 64 marks a word, the first one at its lowest bit.
-    pub fn words(&self) -> MarkWords
+    pub fn words(&self) -> InitialisedWords
         ensures { result ≡ words_of self.now.marks.cells }
     {
         self.marks.words()

@@ -1,14 +1,14 @@
 //! Parts of kept states, which distinguish them from other states.
 
 ghost use Rattle.std.specs.Prelude.{◌≡◌, true, false};
-ghost use Rattle.absstate.specs.MarkWords.{words_of};
+ghost use Rattle.absstate.specs.InitialisedWords.{words_of};
 ghost use Rattle.absstate.specs.Covers.{covers};
 ghost use Rattle.absstate.specs.Packing.{IsPartOf};
 ghost use Rattle.absstate.specs.declared.abstract_state.AbsState.{AbsState};
 
 use crate::abstract_state::{AbsState, AbstractValue, Anchor};
 use crate::covering::{covers_value, proves_no_more, shared};
-use crate::mark_words::MarkWords;
+use crate::initialised_words::InitialisedWords;
 use interval::Domain;
 use std::alloc::AllocError;
 
@@ -92,7 +92,7 @@ fn word_rules_out<D: Domain>(
     index: usize,
     word: u64,
     other: &AbsState<D>,
-    words: &MarkWords,
+    words: &InitialisedWords,
 ) -> bool
     requires { words.now ≡ words_of other.now.marks.cells }
     ensures { (a : AbsState D) → IsPartOf a (Part.Word index word) → result ≡ true → covers D.ops a other.now ≡ false }
@@ -106,13 +106,13 @@ fn word_rules_out<D: Domain>(
 impl<D: Domain> Part<D> {
     ghost use Rattle.std.specs.Prelude.{◌≡◌, true, false};
     ghost use Rattle.absstate.specs.Covers.{covers};
-    ghost use Rattle.absstate.specs.MarkWords.{words_of};
+    ghost use Rattle.absstate.specs.InitialisedWords.{words_of};
     ghost use Rattle.absstate.specs.Packing.{IsPartOf};
     ghost use Rattle.absstate.specs.declared.abstract_state.AbsState.{AbsState};
 
     /// Returns whether no state with this part covers a state, whose marks are these words.
     #[inline(always)]
-    pub fn rules_out(&self, other: &AbsState<D>, words: &MarkWords) -> bool
+    pub fn rules_out(&self, other: &AbsState<D>, words: &InitialisedWords) -> bool
         requires { words.now ≡ words_of other.now.marks.cells }
         ensures { (a : AbsState D) → IsPartOf a self.now → result ≡ true → covers D.ops a other.now ≡ false }
     {

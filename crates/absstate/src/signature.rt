@@ -2,14 +2,14 @@
 
 ghost use Rattle.std.specs.Prelude.{◌≡◌, ◌≤◌, ◌+◌, length};
 ghost use Rattle.absstate.specs.AbstractStates.{proved_of};
-ghost use Rattle.absstate.specs.MarkWords.{words_of};
+ghost use Rattle.absstate.specs.InitialisedWords.{words_of};
 ghost use Rattle.absstate.specs.Signatures.{hashed_bit, number_bit, proved_bit, value_bit, value_bits, mark_bits, hashed_pair, value_hash, values_hash};
 
 use crate::abstract_state::{AbsState, AbstractValue, Anchor, REGISTERS};
 use crate::covering::values_of;
+use crate::initialised_words::InitialisedWords;
 use crate::links::{Links, links_of};
 use crate::margins::{Margins, margins_of};
-use crate::mark_words::MarkWords;
 use interval::{Bounds, Domain};
 
 /// Bits for marks, by their places: where a mark is, and where two or more are.
@@ -200,11 +200,11 @@ impl StateSignature {
 
 impl<D: Domain> AbsState<D> {
     ghost use Rattle.std.specs.Prelude.{◌≡◌};
-    ghost use Rattle.absstate.specs.MarkWords.{words_of};
+    ghost use Rattle.absstate.specs.InitialisedWords.{words_of};
     ghost use Rattle.absstate.specs.Signatures.{state_signature};
 
     /// Returns the signature of this state, whose marks are these words.
-    pub fn signature(&self, words: &MarkWords) -> StateSignature
+    pub fn signature(&self, words: &InitialisedWords) -> StateSignature
         requires { words.now ≡ words_of self.now.marks.cells }
         ensures { result ≡ state_signature D.ops self.now }
     {

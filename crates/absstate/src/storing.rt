@@ -30,7 +30,7 @@ fn set_bytes<D: Copy>(size: Size, to: Region) -> Change<D>
     ensures { (state : AbsState D) → state_after_change state result ≡ with_region state (byte_count size) to }
 {
     match to {
-        Region::InStack(index) => Change::Marks {
+        Region::InStack(index) => Change::InitialisedBytes {
             index: index as u16,
             size,
         },

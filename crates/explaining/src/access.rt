@@ -8,7 +8,7 @@ ghost use Rattle.explaining.specs.Remedies.{IsRemedy};
 
 use crate::changes::{REGISTERS, stack_place};
 use crate::text::{DatagramPlace, Known, Signed, State};
-use absstate::{AbstractValue, Anchor, Marks};
+use absstate::{AbstractValue, Anchor, InitialisedBytes};
 use insn::{Insn, Reg};
 use interval::Interval;
 use semantics::{
@@ -279,7 +279,7 @@ impl Access {
 }
 
 /// Returns the first byte in a range of the stack that isn't set, by its index; the range's end where all are.
-fn first_unset(marks: &Marks, first: usize, end: usize) -> usize {
+fn first_unset(marks: &InitialisedBytes, first: usize, end: usize) -> usize {
     for i in first..end {
         if !marks.is_set(i) {
             return i;

@@ -23,7 +23,7 @@ use Rattle.rules.specs.declared.disposition.Discard.TheVariants.{NotServed, ByPr
 use Rattle.rules.specs.declared.disposition.Disposition.{Disposition}
 use Rattle.rules.specs.declared.disposition.Disposition.TheVariants.{Discarded}
 use Rattle.relay.specs.EventRuns.{exit_verdict, verdict_of_datagram}
-use Rattle.relay.specs.Found.{HasRun, run_at, reply_of_passing, disposition_of_passing, window_shown}
+use Rattle.relay.specs.Forwarding.{HasRun, run_at, reply_of_passing, disposition_of_passing, window_shown}
 use Rattle.relay.specs.Relays.{RelayContents, state_of, datagram_at}
 use Rattle.relay.specs.Steps.{HasStepped, outcome_of, disposition_for, disposition_of_step}
 use Rattle.rules.specs.Systems.{SystemReply, no_answer, reply_of_relaying, outcome_at, if_served, is_served, with_nonce}

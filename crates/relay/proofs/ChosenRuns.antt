@@ -21,10 +21,10 @@ use Rattle.rules.specs.Systems.{SystemReply, is_served, no_answer, outcome_at, r
 use Rattle.rules.specs.declared.confinement.Confinement.{Confinement}
 use Rattle.relay.specs.ByPrograms.{Programs, by_run, is_there, let_through, of_ending, of_passing, program_for}
 use Rattle.relay.specs.Choices.{Chosen, Passing, Relaying, chosen_at, chosen_by_run, programs_with, SameChoiceIsSameStep}
-use Rattle.relay.specs.Found.{HasRun, chosen_of_found, is_of_window, run_at, sending_of_found, window_shown}
+use Rattle.relay.specs.Forwarding.{HasRun, chosen_of_forwarding, is_of_window, run_at, sending_of_forwarding, window_shown}
 use Rattle.relay.specs.Relays.{RelayContents, datagram_at, state_of}
-use Rattle.relay.specs.declared.found.Found.{Found}
-use Rattle.relay.specs.declared.found.Found.TheVariants as found
+use Rattle.relay.specs.declared.forwarding.Forwarding.{Forwarding}
+use Rattle.relay.specs.declared.forwarding.Forwarding.TheVariants as forwarding
 use Rattle.relay.proofs.Advances.{end_discards, end_passes_client, end_passes_peer, end_sends}
 use Rattle.relay.proofs.Confined.{nothing_through}
 
@@ -36,12 +36,12 @@ program_with programs (Peer slot peer) program = refl
 
 -- ---- what is chosen by what was found
 
-pub of_window : (r : RelayContents) (from : Source) (f : Found) → is_of_window f ≡ true → chosen_of_found r from f ≡ Relaying (sending_of_found r from f)
-of_window r from (found.Nothing reason) is = refl
-of_window r from found.Stopped is = refl
-of_window r from (found.WindowToPeer slot peer) is = refl
-of_window r from (found.WindowToClient client) is = refl
-of_window r from (found.Answer answer) is = absurd cc
+pub of_window : (r : RelayContents) (from : Source) (f : Forwarding) → is_of_window f ≡ true → chosen_of_forwarding r from f ≡ Relaying (sending_of_forwarding r from f)
+of_window r from (forwarding.Nothing reason) is = refl
+of_window r from forwarding.Stopped is = refl
+of_window r from (forwarding.WindowToPeer slot peer) is = refl
+of_window r from (forwarding.WindowToClient client) is = refl
+of_window r from (forwarding.Answer answer) is = absurd cc
 
 -- ---- what is chosen by a run
 

@@ -32,7 +32,7 @@ use Rattle.rules.specs.declared.disposition.Disposition.TheVariants.{Relayed, Di
 use Rattle.relay.specs.ByPrograms.{Programs, program_for, by_programs, by_run, disposition_of_sent, is_there, let_through, of_passing, of_run, permitted_only, relayed_where_sent}
 use Rattle.relay.proofs.AfterRuns.{after_run}
 use Rattle.relay.specs.Confinement.{IsPermittedFor, SendsWhatIsPermitted}
-use Rattle.relay.specs.Found.{may_come, may_go, stopped_where_shown}
+use Rattle.relay.specs.Forwarding.{may_come, may_go, stopped_where_shown}
 
 -- ---- what is let through
 

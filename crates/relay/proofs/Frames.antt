@@ -15,7 +15,7 @@ use Rattle.machine.specs.declared.context.Context.{Context}
 use Rattle.machine.specs.declared.outcome.Outcome.{Outcome}
 use Rattle.machine.specs.declared.outcome.Stuck.{Stuck}
 use Rattle.programs.specs.Runs.{window_in}
-use Rattle.relay.specs.Found.{HasRun}
+use Rattle.relay.specs.Forwarding.{HasRun}
 use Rattle.relay.specs.Reasons.{last_slot_of}
 
 -- what a sink keeps, to which the steps of a path were reported, is the slot of the last one

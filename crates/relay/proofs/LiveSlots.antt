@@ -18,7 +18,7 @@ use Rattle.events.specs.declared.meta.Source.{Source}
 use Rattle.events.specs.declared.meta.Source.TheVariants.{Client, Peer}
 use Rattle.programs.specs.Runs.{context_for, slot_for}
 use Rattle.relay.specs.ByPrograms.{program_for}
-use Rattle.relay.specs.Found.{held_for, run_at, HasRun}
+use Rattle.relay.specs.Forwarding.{held_for, run_at, HasRun}
 use Rattle.relay.specs.Relays.{RelayContents, datagram_at}
 
 -- what is live there answers as the slot does

@@ -15,12 +15,12 @@ use Rattle.events.specs.declared.meta.Meta.{Meta}
 use Rattle.events.specs.declared.parsing.Parsed.{Parsed}
 use Rattle.events.specs.declared.parsing.Parsed.TheVariants as parsed
 use Rattle.relay.specs.ByPrograms.{disposition_of_datagram}
-use Rattle.relay.specs.Grounds.{grounds_of_line, reason_by}
+use Rattle.relay.specs.Evidence.{evidence_of_line, reason_by}
 use Rattle.relay.specs.ReasonTexts.{line_ending}
 use Rattle.relay.specs.Relays.{RelayContents, state_of, datagram_at}
 use Rattle.relay.specs.Replays.{system_of, after_line, answer_to, reason_wanted, IsCut}
 use Rattle.relay.specs.Steps.{HasStepped, outcome_of, disposition_of_step}
-use Rattle.relay.specs.declared.explaining.Grounds.{Grounds}
+use Rattle.relay.specs.declared.explaining.Evidence.{Evidence}
 use Rattle.rules.specs.Systems.{SystemOutcome, system_step, with_nonce}
 use Rattle.rules.specs.declared.disposition.Disposition.{Disposition}
 use Rattle.relay.proofs.SameNonce.{disposition_of_datagram_same}
@@ -70,22 +70,22 @@ module _ (old mid : RelayContents) (room : List ℕ) (given : Meta) (n : ℕ) (r
   state_is new stepped = stepped.state ∙ ap (λ (o : SystemOutcome). o.state) outcome_is
       ∙ ap (after_line (system_of old) old.config (state_of old)) is
 
-  module _ (explains : Bool) (sent : Option Sending) (done : Disposition) (grounds : Option Grounds)
+  module _ (explains : Bool) (sent : Option Sending) (done : Disposition) (evidence : Option Evidence)
       (sends : sent ≡ (outcome_of with_bytes given n).answer)
-      (does : done ≡ disposition_of_step with_bytes given n) (are : grounds ≡ grounds_of_line explains config old read) where
+      (does : done ≡ disposition_of_step with_bytes given n) (are : evidence ≡ evidence_of_line explains config old read) where
     -- the reason of the step is that of the event
-    reason_is : reason_by done grounds
+    reason_is : reason_by done evidence
         ≡ reason_wanted explains old.programs old.config (state_of old) (Datagram given (take n room))
     reason_is =
-        (λ i. reason_by ((does ∙ disposition_is) i) ((are ∙ ap (grounds_of_line explains config old) (sym is)) i))
+        (λ i. reason_by ((does ∙ disposition_is) i) ((are ∙ ap (evidence_of_line explains config old) (sym is)) i))
         ∙ wanted explains where
-          wanted : (b : Bool) → reason_by done_by_programs (grounds_of_line b config old (Some (Datagram given (take n room))))
+          wanted : (b : Bool) → reason_by done_by_programs (evidence_of_line b config old (Some (Datagram given (take n room))))
               ≡ reason_wanted b old.programs old.config (state_of old) (Datagram given (take n room))
           wanted true = refl
           wanted false = refl
 
     -- its line is that of the event's answer
-    pub answer_is : answer_line sent ++ line_ending (reason_by done grounds)
+    pub answer_is : answer_line sent ++ line_ending (reason_by done evidence)
         ≡ answer_to explains old.programs old.config (state_of old) read
     answer_is =
         (λ i. answer_line (sends i) ++ line_ending (reason_is i))
@@ -96,7 +96,7 @@ module _ (old mid : RelayContents) (room : List ℕ) (given : Meta) (n : ℕ) (r
 
     -- a beginning of it is one of that answer
     pub cut_is : (held holds : Option (List ℕ))
-        → AppendsBeginning held holds (answer_line sent ++ line_ending (reason_by done grounds))
+        → AppendsBeginning held holds (answer_line sent ++ line_ending (reason_by done evidence))
         → IsCut explains held holds old.programs old.config (state_of old) read
     cut_is held holds wrote = record {
       known = ap is_some (sym is);

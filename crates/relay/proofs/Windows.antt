@@ -15,10 +15,10 @@ use Rattle.programs.specs.Runs.{planned_sending}
 use Rattle.rules.specs.declared.confinement.Confinement.{Confinement}
 use Rattle.rules.specs.declared.disposition.Discard.TheVariants.{ByProgram}
 use Rattle.relay.specs.ByPrograms.{disposition_of_sent, let_through, relayed_where_sent}
-use Rattle.relay.specs.Found.{disposition_of_found, held_for, may_come, may_go, sending_of_found, window_shown}
+use Rattle.relay.specs.Forwarding.{disposition_of_forwarding, held_for, may_come, may_go, sending_of_forwarding, window_shown}
 use Rattle.relay.specs.Relays.{RelayContents}
-use Rattle.relay.specs.declared.found.Found.{Found}
-use Rattle.relay.specs.declared.found.Found.TheVariants as found
+use Rattle.relay.specs.declared.forwarding.Forwarding.{Forwarding}
+use Rattle.relay.specs.declared.forwarding.Forwarding.TheVariants as forwarding
 use Rattle.relay.proofs.Confined.{client_at_is, nothing_sent, nothing_through, own_allocation_is, passes, passes_where_may_come, passes_where_may_go, plans_elsewhere, plans_nothing, plans_nowhere, plans_to_client, plans_to_none, plans_to_peer, window_discarded, window_relayed, window_stopped, window_through}
 
 module _ (c : Option Confinement) (r : RelayContents) where
@@ -29,37 +29,37 @@ module _ (c : Option Confinement) (r : RelayContents) where
   shown = window_shown r.frame
 
   -- the finding of a plan
-  pub record IsFoundAs (from : Source) (destination : Option Addr) (f : Found) : Type 0 where
-    pub sends : sending_of_found r from f ≡ let_through c from live (planned_sending from live destination shown)
-    pub disposition : disposition_of_found r from f ≡ disposition_of_sent c from live (planned_sending from live destination shown)
+  pub record IsForwardedAs (from : Source) (destination : Option Addr) (f : Forwarding) : Type 0 where
+    pub sends : sending_of_forwarding r from f ≡ let_through c from live (planned_sending from live destination shown)
+    pub disposition : disposition_of_forwarding r from f ≡ disposition_of_sent c from live (planned_sending from live destination shown)
 
-  found_nothing : (from : Source) (destination : Option Addr) → planned_sending from live destination shown ≡ None → IsFoundAs from destination (found.Nothing ByProgram)
-  found_nothing from destination none = record {
+  forwards_nothing : (from : Source) (destination : Option Addr) → planned_sending from live destination shown ≡ None → IsForwardedAs from destination (forwarding.Nothing ByProgram)
+  forwards_nothing from destination none = record {
     sends = sym (ap (let_through c from live) none ∙ nothing_through from live c);
     disposition = sym (ap (disposition_of_sent c from live) none ∙ nothing_sent from live c);
   }
 
   -- a window that is sent, and one that is stopped
   module _ (from : Source) (destination : Option Addr) (make : List ℕ → Sending) (plan : planned_sending from live destination shown ≡ option_map make shown) where
-    found_window : (f : Found) → sending_of_found r from f ≡ option_map make shown → disposition_of_found r from f ≡ relayed_where_sent (option_map make shown)
-        → ((bytes : List ℕ) → passes c from live (make bytes) ≡ true) → IsFoundAs from destination f
-    found_window f sent done is = record {
+    forwards_window : (f : Forwarding) → sending_of_forwarding r from f ≡ option_map make shown → disposition_of_forwarding r from f ≡ relayed_where_sent (option_map make shown)
+        → ((bytes : List ℕ) → passes c from live (make bytes) ≡ true) → IsForwardedAs from destination f
+    forwards_window f sent done is = record {
       sends = sent ∙ sym (ap (let_through c from live) plan ∙ window_through from live c make is shown);
       disposition = done ∙ sym (ap (disposition_of_sent c from live) plan ∙ window_relayed from live c make is shown);
     }
 
-    found_stopped : ((bytes : List ℕ) → passes c from live (make bytes) ≡ false) → IsFoundAs from destination found.Stopped
-    found_stopped is = record {
+    forwards_stopped : ((bytes : List ℕ) → passes c from live (make bytes) ≡ false) → IsForwardedAs from destination forwarding.Stopped
+    forwards_stopped is = record {
       sends = sym (ap (let_through c from live) plan ∙ window_stopped from live c make is shown);
       disposition = sym (ap (disposition_of_sent c from live) plan ∙ window_discarded from live c make is shown);
     }
 
   -- where the slot has no live allocation
-  pub found_unheld : (from : Source) (destination : Option Addr) → None ≡ held_for from live → IsFoundAs from destination (found.Nothing ByProgram)
-  found_unheld (Client client) destination none =
-      found_nothing (Client client) destination (plans_nothing live client (ap (option_map (λ (held : Held). held.allocation)) (sym none)) destination shown)
-  found_unheld (Peer slot peer) destination none =
-      found_nothing (Peer slot peer) destination
+  pub forwards_unheld : (from : Source) (destination : Option Addr) → None ≡ held_for from live → IsForwardedAs from destination (forwarding.Nothing ByProgram)
+  forwards_unheld (Client client) destination none =
+      forwards_nothing (Client client) destination (plans_nothing live client (ap (option_map (λ (held : Held). held.allocation)) (sym none)) destination shown)
+  forwards_unheld (Peer slot peer) destination none =
+      forwards_nothing (Peer slot peer) destination
       (plans_to_none live slot peer destination
       (ap (λ (o : Option Held). option_map (λ (a : Allocation). a.client) (option_map (λ (held : Held). held.allocation) o)) (sym none)) shown)
 
@@ -69,25 +69,25 @@ module _ (c : Option Confinement) (r : RelayContents) where
       own : allocation_of client live ≡ Some held.allocation
       own = own_allocation_is client live held formed is
 
-      pub found_nowhere : IsFoundAs (Client client) None (found.Nothing ByProgram)
-      found_nowhere = found_nothing (Client client) None (plans_nowhere live client shown)
+      pub forwards_nowhere : IsForwardedAs (Client client) None (forwarding.Nothing ByProgram)
+      forwards_nowhere = forwards_nothing (Client client) None (plans_nowhere live client shown)
 
       module _ (peer : Addr) where
-        pub found_elsewhere : is_of_family held.allocation.family peer ≡ false → IsFoundAs (Client client) (Some peer) (found.Nothing ByProgram)
-        found_elsewhere family = found_nothing (Client client) (Some peer) (plans_elsewhere live client held.allocation peer own family shown)
+        pub forwards_elsewhere : is_of_family held.allocation.family peer ≡ false → IsForwardedAs (Client client) (Some peer) (forwarding.Nothing ByProgram)
+        forwards_elsewhere family = forwards_nothing (Client client) (Some peer) (plans_elsewhere live client held.allocation peer own family shown)
 
         module _ (family : is_of_family held.allocation.family peer ≡ true) where
           plan : planned_sending (Client client) live (Some peer) shown ≡ option_map (ToPeer held.allocation.slot peer) shown
           plan = plans_to_peer live client held.allocation peer own family shown
 
-          pub found_to_peer : may_go c held peer ≡ true → IsFoundAs (Client client) (Some peer) (found.WindowToPeer held.allocation.slot peer)
-          found_to_peer may =
-              found_window (Client client) (Some peer) (ToPeer held.allocation.slot peer) plan (found.WindowToPeer held.allocation.slot peer) refl refl
+          pub forwards_to_peer : may_go c held peer ≡ true → IsForwardedAs (Client client) (Some peer) (forwarding.WindowToPeer held.allocation.slot peer)
+          forwards_to_peer may =
+              forwards_window (Client client) (Some peer) (ToPeer held.allocation.slot peer) plan (forwarding.WindowToPeer held.allocation.slot peer) refl refl
               (λ bytes. passes_where_may_go client live held formed is c peer bytes ∙ may)
 
-          pub stopped_to_peer : may_go c held peer ≡ false → IsFoundAs (Client client) (Some peer) found.Stopped
+          pub stopped_to_peer : may_go c held peer ≡ false → IsForwardedAs (Client client) (Some peer) forwarding.Stopped
           stopped_to_peer may =
-              found_stopped (Client client) (Some peer) (ToPeer held.allocation.slot peer) plan
+              forwards_stopped (Client client) (Some peer) (ToPeer held.allocation.slot peer) plan
               (λ bytes. passes_where_may_go client live held formed is c peer bytes ∙ may)
 
     -- of a slot
@@ -95,14 +95,14 @@ module _ (c : Option Confinement) (r : RelayContents) where
       plan_to_client : planned_sending (Peer slot peer) live destination shown ≡ option_map (ToClient held.allocation.client) shown
       plan_to_client = plans_to_client live slot peer destination held.allocation.client (client_at_is slot live held is) shown
 
-      pub found_to_client : may_come c held peer ≡ true → IsFoundAs (Peer slot peer) destination (found.WindowToClient held.allocation.client)
-      found_to_client may =
-          found_window (Peer slot peer) destination (ToClient held.allocation.client) plan_to_client (found.WindowToClient held.allocation.client) refl refl
+      pub forwards_to_client : may_come c held peer ≡ true → IsForwardedAs (Peer slot peer) destination (forwarding.WindowToClient held.allocation.client)
+      forwards_to_client may =
+          forwards_window (Peer slot peer) destination (ToClient held.allocation.client) plan_to_client (forwarding.WindowToClient held.allocation.client) refl refl
           (λ bytes. passes_where_may_come slot live held is c peer held.allocation.client bytes ∙ may)
 
-      pub stopped_to_client : may_come c held peer ≡ false → IsFoundAs (Peer slot peer) destination found.Stopped
+      pub stopped_to_client : may_come c held peer ≡ false → IsForwardedAs (Peer slot peer) destination forwarding.Stopped
       stopped_to_client may =
-          found_stopped (Peer slot peer) destination (ToClient held.allocation.client) plan_to_client
+          forwards_stopped (Peer slot peer) destination (ToClient held.allocation.client) plan_to_client
           (λ bytes. passes_where_may_come slot live held is c peer held.allocation.client bytes ∙ may)
 
 -- ---- with what is matched as equations
@@ -114,32 +114,32 @@ module _ (c : Option Confinement) (r : RelayContents) (from : Source) (destinati
     held_is : Some held ≡ held_by client (rows_at r.greatest r.rows)
     held_is = sym there ∙ is ∙ ap (λ (s : Source). held_for s (rows_at r.greatest r.rows)) from_is
 
-    with_values : (f : Found) → IsFoundAs c r (Client client) (Some peer) f → IsFoundAs c r from destination f
+    with_values : (f : Forwarding) → IsForwardedAs c r (Client client) (Some peer) f → IsForwardedAs c r from destination f
     with_values f found =
-        subst (λ (s : Source). IsFoundAs c r s destination f) (sym from_is)
-        (subst (λ (d : Option Addr). IsFoundAs c r (Client client) d f) (sym destination_is) found)
+        subst (λ (s : Source). IsForwardedAs c r s destination f) (sym from_is)
+        (subst (λ (d : Option Addr). IsForwardedAs c r (Client client) d f) (sym destination_is) found)
 
-    pub client_stopped : may_go c held peer ≡ false → IsFoundAs c r from destination found.Stopped
-    client_stopped may = with_values found.Stopped (stopped_to_peer c r formed held client held_is peer family may)
+    pub client_stopped : may_go c held peer ≡ false → IsForwardedAs c r from destination forwarding.Stopped
+    client_stopped may = with_values forwarding.Stopped (stopped_to_peer c r formed held client held_is peer family may)
 
-    pub client_sends : (slot : ℕ) → slot ≡ held.allocation.slot → may_go c held peer ≡ true → IsFoundAs c r from destination (found.WindowToPeer slot peer)
+    pub client_sends : (slot : ℕ) → slot ≡ held.allocation.slot → may_go c held peer ≡ true → IsForwardedAs c r from destination (forwarding.WindowToPeer slot peer)
     client_sends slot slot_is may =
-        with_values (found.WindowToPeer slot peer)
-        (subst (λ (n : ℕ). IsFoundAs c r (Client client) (Some peer) (found.WindowToPeer n peer)) (sym slot_is)
-        (found_to_peer c r formed held client held_is peer family may))
+        with_values (forwarding.WindowToPeer slot peer)
+        (subst (λ (n : ℕ). IsForwardedAs c r (Client client) (Some peer) (forwarding.WindowToPeer n peer)) (sym slot_is)
+        (forwards_to_peer c r formed held client held_is peer family may))
 
   module _ (slot : ℕ) (peer : Addr) (from_is : from ≡ Peer slot peer) where
     slot_held_is : Some held ≡ held_in (rows_at r.greatest r.rows) slot
     slot_held_is = sym there ∙ is ∙ ap (λ (s : Source). held_for s (rows_at r.greatest r.rows)) from_is
 
-    from_peer : (f : Found) → IsFoundAs c r (Peer slot peer) destination f → IsFoundAs c r from destination f
-    from_peer f found = subst (λ (s : Source). IsFoundAs c r s destination f) (sym from_is) found
+    from_peer : (f : Forwarding) → IsForwardedAs c r (Peer slot peer) destination f → IsForwardedAs c r from destination f
+    from_peer f found = subst (λ (s : Source). IsForwardedAs c r s destination f) (sym from_is) found
 
-    pub peer_stopped : may_come c held peer ≡ false → IsFoundAs c r from destination found.Stopped
-    peer_stopped may = from_peer found.Stopped (stopped_to_client c r formed held slot peer slot_held_is destination may)
+    pub peer_stopped : may_come c held peer ≡ false → IsForwardedAs c r from destination forwarding.Stopped
+    peer_stopped may = from_peer forwarding.Stopped (stopped_to_client c r formed held slot peer slot_held_is destination may)
 
-    pub peer_sends : (client : Addr) → client ≡ held.allocation.client → may_come c held peer ≡ true → IsFoundAs c r from destination (found.WindowToClient client)
+    pub peer_sends : (client : Addr) → client ≡ held.allocation.client → may_come c held peer ≡ true → IsForwardedAs c r from destination (forwarding.WindowToClient client)
     peer_sends client client_is may =
-        from_peer (found.WindowToClient client)
-        (subst (λ (a : Addr). IsFoundAs c r (Peer slot peer) destination (found.WindowToClient a)) (sym client_is)
-        (found_to_client c r formed held slot peer slot_held_is destination may))
+        from_peer (forwarding.WindowToClient client)
+        (subst (λ (a : Addr). IsForwardedAs c r (Peer slot peer) destination (forwarding.WindowToClient a)) (sym client_is)
+        (forwards_to_client c r formed held slot peer slot_held_is destination may))

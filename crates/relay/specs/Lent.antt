@@ -5,7 +5,7 @@ use Rattle.events.specs.Events.{Sending, ToPeer, ToClient}
 use Rattle.machine.specs.Contents as machine
 use Rattle.machine.specs.Contents.{datagram_of}
 use Rattle.relay.specs.Choices.{Chosen, Passing, Relaying}
-use Rattle.relay.specs.Found.{window_shown}
+use Rattle.relay.specs.Forwarding.{window_shown}
 use Rattle.relay.specs.declared.choosing.Choice.{Choice}
 use Rattle.relay.specs.declared.choosing.Choice.TheVariants as choice
 use Rattle.relay.specs.declared.choosing.Route.{Route}

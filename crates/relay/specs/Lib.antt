@@ -5,8 +5,8 @@ pub mod Choices
 pub mod Confinement
 pub mod Errors
 pub mod EventRuns
-pub mod Found
-pub mod Grounds
+pub mod Forwarding
+pub mod Evidence
 pub mod Harmless
 pub mod KeysCompared
 pub mod Lent

@@ -2,7 +2,7 @@
 use Rattle.std.specs.Prelude.{◌≡◌, ℕ, Bool, None}
 use Rattle.events.specs.declared.meta.Meta.{Meta}
 use Rattle.relay.specs.Choices.{chosen_of}
-use Rattle.relay.specs.Found.{asked}
+use Rattle.relay.specs.Forwarding.{asked}
 use Rattle.relay.specs.Relays.{RelayContents, datagram_at}
 use Rattle.relay.specs.Steps.{disposition_of_step, outcome_of}
 

@@ -5,11 +5,11 @@ ghost use Rattle.events.specs.declared.meta.Meta.{Meta};
 ghost use Rattle.events.specs.declared.meta.Source.{Source};
 ghost use Rattle.insn.specs.declared.instruction.Insn.{Insn};
 ghost use Rattle.relay.specs.Choices.{Relaying, SameChoiceIsSameStep};
-ghost use Rattle.relay.specs.Found.{is_of_window, sending_of_found};
+ghost use Rattle.relay.specs.Forwarding.{is_of_window, sending_of_forwarding};
 ghost use Rattle.relay.specs.Lent.{chosen_by_route};
 ghost use Rattle.relay.specs.Relays.{RelayContents};
 
-use crate::found::{Found, window_found, window_to_client, window_to_peer};
+use crate::forwarding::{Forwarding, window_forwarding, window_to_client, window_to_peer};
 use crate::relay::{Relay, is_served};
 use crate::running::{context_for, live_for, run_over};
 use attributes::Addr;
@@ -62,15 +62,15 @@ impl Route {
 }
 
 /// Returns where what was found leads, which isn't an answer of the rules.
-fn route_found(found: Found) -> Route
-    requires { is_of_window found ≡ true }
+fn route_of_forwarding(forwarding: Forwarding) -> Route
+    requires { is_of_window forwarding ≡ true }
     ensures { (r : RelayContents) (from : Source)
-        → chosen_by_route r.frame result ≡ Relaying (sending_of_found r from found) }
+        → chosen_by_route r.frame result ≡ Relaying (sending_of_forwarding r from forwarding) }
 {
-    match found {
-        Found::WindowToPeer { slot, peer } => Route::ToPeer { slot, peer },
-        Found::WindowToClient { client } => Route::ToClient { client },
-        Found::Nothing(_) | Found::Stopped | Found::Answer(_) => Route::Nowhere,
+    match forwarding {
+        Forwarding::WindowToPeer { slot, peer } => Route::ToPeer { slot, peer },
+        Forwarding::WindowToClient { client } => Route::ToClient { client },
+        Forwarding::Nothing(_) | Forwarding::Stopped | Forwarding::Answer(_) => Route::Nowhere,
     }
 }
 
@@ -91,7 +91,7 @@ impl Relay {
     ghost use Rattle.tables.specs.WellFormed.{AreWellFormed};
     ghost use Rattle.relay.specs.ByPrograms.{is_there};
     ghost use Rattle.relay.specs.Choices.{chosen_of, with_program};
-    ghost use Rattle.relay.specs.Found.{HasRun, held_for, run_at};
+    ghost use Rattle.relay.specs.Forwarding.{HasRun, held_for, run_at};
     ghost use Rattle.relay.specs.Lent.{chosen_by_route};
 
     /// Returns whether a source is served.
@@ -165,8 +165,15 @@ impl Relay {
             SENDS => {
                 let (live, to) = (&helpers.live, outcome.destination);
                 let confinement = self.confinement();
-                let found = window_found(&meta.from, live, to, confinement, true, &mut Uncounted);
-                route_found(found)
+                let forwarding = window_forwarding(
+                    &meta.from,
+                    live,
+                    to,
+                    confinement,
+                    true,
+                    &mut Uncounted,
+                );
+                route_of_forwarding(forwarding)
             }
             _ => Route::Nowhere,
         }

@@ -7,9 +7,9 @@ ghost use Rattle.events.specs.declared.meta.Source.{Source};
 ghost use Rattle.machine.specs.Tracing.{EndsWith};
 ghost use Rattle.programs.specs.Runs.{run_for};
 ghost use Rattle.relay.specs.ByPrograms.{Programs, program_for};
-ghost use Rattle.relay.specs.Found.{held_for};
+ghost use Rattle.relay.specs.Forwarding.{held_for};
 ghost use Rattle.relay.specs.EventRuns.{side_of};
-ghost use Rattle.relay.specs.Grounds.{reason_by};
+ghost use Rattle.relay.specs.Evidence.{reason_by};
 ghost use Rattle.relay.specs.Reasons.{exit_slot, missing_to_peer, reason_of_datagram, reason_of_event, unsent_by_run, HoldsAtExit};
 ghost use Rattle.relay.specs.ReasonTexts.{line_ending};
 ghost use Rattle.relay.specs.Replays.{answer_text};
@@ -52,7 +52,7 @@ impl Sink for LastSlot {
 
 /// What explains the step of a datagram, as it is found before the step.
 #[derive(Clone, Copy)]
-pub(crate) struct Grounds {
+pub(crate) struct Evidence {
     /// Why the rules send nothing, if they do.
     pub(crate) ruled: Option<Discard>,
     /// The slot at which the run of the program exits.
@@ -98,15 +98,15 @@ pub(crate) fn unsent_at(
     }
 }
 
-/// Returns the reason of a step that did this, where there are grounds.
-pub(crate) fn reason_by(done: Disposition, grounds: Option<Grounds>) -> Option<StepReason>
-    ensures { result ≡ reason_by done grounds }
+/// Returns the reason of a step that did this, where there is evidence.
+pub(crate) fn reason_by(done: Disposition, evidence: Option<Evidence>) -> Option<StepReason>
+    ensures { result ≡ reason_by done evidence }
 {
-    let Grounds {
+    let Evidence {
         ruled,
         slot,
         unsent,
-    } = grounds?;
+    } = evidence?;
     Some(reason_of(done, ruled, slot, unsent))
 }
 
@@ -150,7 +150,7 @@ impl Relay {
     ghost use Rattle.control.specs.declared.config.Config.{Config};
     ghost use Rattle.events.specs.Reading.{event_in};
     ghost use Rattle.relay.specs.EventRuns.{run_of_event, IsTraced};
-    ghost use Rattle.relay.specs.Grounds.{grounds_of_line};
+    ghost use Rattle.relay.specs.Evidence.{evidence_of_line};
 
     /// Traces the run that the step of the event of a line makes, if it is a datagram's, and returns its side and its
     /// end. The steps are reported to the sink, and it writes over the room.
@@ -176,9 +176,9 @@ impl Relay {
     /// Finds what explains the step of the datagram of a line, if it has one, where reasons are wanted. It writes over
     /// the room.
     /// See docs/DECISIONS.md, "Why a replay answers so".
-    pub(crate) fn grounds_of_line(&mut self, line: &[u8], explains: bool) -> Option<Grounds>
-        ensures grounds { (config : Config) → result
-            ≡ grounds_of_line explains config self.old (event_in self.old.config.slots line.now) }
+    pub(crate) fn evidence_of_line(&mut self, line: &[u8], explains: bool) -> Option<Evidence>
+        ensures evidence { (config : Config) → result
+            ≡ evidence_of_line explains config self.old (event_in self.old.config.slots line.now) }
         ensures rest { self.new ≡ record self.old { frame = self.new.frame } }
     {
         if !explains {
@@ -186,7 +186,7 @@ impl Relay {
         }
         let slots = self.slots();
         match parse(line, slots, self.area()) {
-            Some(Parsed::Datagram { meta, n }) => Some(self.grounds(&meta, n)),
+            Some(Parsed::Datagram { meta, n }) => Some(self.evidence(&meta, n)),
             _ => None,
         }
     }

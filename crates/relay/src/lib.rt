@@ -6,7 +6,7 @@ mod choosing;
 mod confining;
 mod error;
 mod explaining;
-mod found;
+mod forwarding;
 mod harmless;
 mod isolation;
 mod lines;

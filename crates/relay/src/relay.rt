@@ -6,8 +6,8 @@ ghost use Rattle.rules.specs.Systems.{is_served};
 ghost use Rattle.relay.specs.ByPrograms.{is_there};
 
 use crate::error::RelayError;
-use crate::explaining::{Grounds, LastSlot, unsent_at};
-use crate::found::{Decided, Found, window_found, window_to_client, window_to_peer};
+use crate::explaining::{Evidence, LastSlot, unsent_at};
+use crate::forwarding::{Decided, Forwarding, window_forwarding, window_to_client, window_to_peer};
 use crate::running::{context_for, live_for, program_for, run_over, trace_over};
 use crate::shipped::are_shipped;
 use crate::step::{Step, discarded, relayed, stopped};
@@ -92,9 +92,9 @@ impl Relay {
     ghost use Rattle.machine.specs.Contents.{datagram_of};
     ghost use Rattle.rules.specs.Answers.{sending_of_answer, LiesInRoom};
     ghost use Rattle.relay.specs.Choices.{chosen_of};
-    ghost use Rattle.relay.specs.Found.{chosen_of_found, disposition_of_found, disposition_of_passing, sending_of_found, reply_of_passing, HasRoomFor};
+    ghost use Rattle.relay.specs.Forwarding.{chosen_of_forwarding, disposition_of_forwarding, disposition_of_passing, sending_of_forwarding, reply_of_passing, HasRoomFor};
     ghost use Rattle.relay.specs.EventRuns.{run_of_datagram, verdict_of_datagram};
-    ghost use Rattle.relay.specs.Grounds.{grounds_of};
+    ghost use Rattle.relay.specs.Evidence.{evidence_of};
     ghost use Rattle.relay.specs.Lent.{chosen_by_step};
     ghost use Rattle.machine.specs.Tracing.{EndsWith, Reports};
     ghost use Rattle.relay.specs.Relays.{state_of, datagram_at};
@@ -349,30 +349,33 @@ impl Relay {
         self.law_steps_are_harmless(&meta, n);
         let decided = self.decide(&meta, n);
         let relay = &*self;
-        relay.lend(&meta.from, decided)
+        relay.borrow_step(&meta.from, decided)
     }
 
-    /// Lends the bytes of what was found for a datagram of a source.
+    /// Returns the step that was decided for a datagram of a source, with the bytes that it sends, which are borrowed.
     #[inline(always)]
-    fn lend(&self, from: &Source, decided: Decided) -> Step<'_>
-        requires { HasRoomFor decided.found self.now.reply }
-        ensures answer { sending_of result.action ≡ sending_of_found self.now from.now decided.found }
-        ensures disposition { result.disposition ≡ disposition_of_found self.now from.now decided.found }
+    fn borrow_step(&self, from: &Source, decided: Decided) -> Step<'_>
+        requires { HasRoomFor decided.forwarding self.now.reply }
+        ensures answer { sending_of result.action ≡ sending_of_forwarding self.now from.now decided.forwarding }
+        ensures disposition { result.disposition ≡ disposition_of_forwarding self.now from.now decided.forwarding }
         ensures verdict { result.verdict ≡ decided.verdict }
         ensures choice { chosen_by_step (option_copied result.passed) (sending_of result.action)
-            ≡ chosen_of_found self.now from.now decided.found }
+            ≡ chosen_of_forwarding self.now from.now decided.forwarding }
     {
-        let Decided { found, verdict } = decided;
-        match found {
-            Found::Nothing(reason) => discarded(reason, verdict),
-            Found::Stopped => stopped(self.frame.window(), verdict),
-            Found::WindowToPeer { slot, peer } => {
+        let Decided {
+            forwarding,
+            verdict,
+        } = decided;
+        match forwarding {
+            Forwarding::Nothing(reason) => discarded(reason, verdict),
+            Forwarding::Stopped => stopped(self.frame.window(), verdict),
+            Forwarding::WindowToPeer { slot, peer } => {
                 relayed(window_to_peer(slot, peer, self.frame.window()), verdict)
             }
-            Found::WindowToClient { client } => {
+            Forwarding::WindowToClient { client } => {
                 relayed(window_to_client(client, self.frame.window()), verdict)
             }
-            Found::Answer(answer) => match *from {
+            Forwarding::Answer(answer) => match *from {
                 Source::Client(client) => Step {
                     action: answer.action(client, self.frame.datagram(), &self.reply),
                     disposition: answer.disposition(),
@@ -390,14 +393,14 @@ impl Relay {
     fn decide(&mut self, meta: &Meta, n: usize) -> Decided
         requires { n ≤ MAX_DATAGRAM }
         ensures stepped { HasStepped self.old self.new (outcome_of self.old meta.entry.now n) }
-        ensures found { sending_of_found self.new meta.entry.now.from result.found
+        ensures forwarding { sending_of_forwarding self.new meta.entry.now.from result.forwarding
             ≡ (outcome_of self.old meta.entry.now n).answer }
-        ensures disposition { disposition_of_found self.new meta.entry.now.from result.found
+        ensures disposition { disposition_of_forwarding self.new meta.entry.now.from result.forwarding
             ≡ disposition_of_step self.old meta.entry.now n }
         ensures verdict { result.verdict ≡ verdict_of_datagram self.old meta.entry.now (datagram_at self.old n) }
-        ensures choice { chosen_of_found self.new meta.entry.now.from result.found
+        ensures choice { chosen_of_forwarding self.new meta.entry.now.from result.forwarding
             ≡ chosen_of self.old meta.entry.now (datagram_at self.old n) }
-        ensures room { HasRoomFor result.found self.new.reply }
+        ensures room { HasRoomFor result.forwarding self.new.reply }
     {
         self.law_shipped_are_unconfined(meta, n);
         self.advance(meta, n, !self.are_shipped, &mut Uncounted)
@@ -410,21 +413,21 @@ impl Relay {
     fn advance<C: Count>(&mut self, meta: &Meta, n: usize, asks: bool, keys: &mut C) -> Decided
         requires { n ≤ MAX_DATAGRAM }
         ensures stepped { HasStepped self.old self.new (outcome_of (asking asks self.old) meta.entry.now n) }
-        ensures found { sending_of_found self.new meta.entry.now.from result.found
+        ensures forwarding { sending_of_forwarding self.new meta.entry.now.from result.forwarding
             ≡ (outcome_of (asking asks self.old) meta.entry.now n).answer }
-        ensures disposition { disposition_of_found self.new meta.entry.now.from result.found
+        ensures disposition { disposition_of_forwarding self.new meta.entry.now.from result.forwarding
             ≡ disposition_of_step (asking asks self.old) meta.entry.now n }
         ensures verdict { result.verdict
             ≡ verdict_of_datagram (asking asks self.old) meta.entry.now (datagram_at self.old n) }
-        ensures choice { chosen_of_found self.new meta.entry.now.from result.found
+        ensures choice { chosen_of_forwarding self.new meta.entry.now.from result.forwarding
             ≡ chosen_of (asking asks self.old) meta.entry.now (datagram_at self.old n) }
-        ensures room { HasRoomFor result.found self.new.reply }
+        ensures room { HasRoomFor result.forwarding self.new.reply }
         ensures keys { C.count keys.new ≤ C.count keys.old + keys_of_step self.old.programs.confinement }
     {
         self.greatest = moment_of(self.greatest, meta.now);
         if !is_served(&meta.from, &self.tables) {
             return Decided {
-                found: Found::Nothing(Discard::NotServed),
+                forwarding: Forwarding::Nothing(Discard::NotServed),
                 verdict: None,
             };
         }
@@ -437,21 +440,31 @@ impl Relay {
         match outcome.verdict {
             PASSES => match meta.from {
                 Source::Client(client) => Decided {
-                    found: Found::Answer(self.pass_on(client, keys)),
+                    forwarding: Forwarding::Answer(self.pass_on(client, keys)),
                     verdict,
                 },
                 Source::Peer { .. } => Decided {
-                    found: Found::Nothing(Discard::ByProgram),
+                    forwarding: Forwarding::Nothing(Discard::ByProgram),
                     verdict,
                 },
             },
             SENDS => {
                 let (live, to) = (&helpers.live, outcome.destination);
-                let found = window_found(&meta.from, live, to, &self.confinement, asks, keys);
-                Decided { found, verdict }
+                let forwarding = window_forwarding(
+                    &meta.from,
+                    live,
+                    to,
+                    &self.confinement,
+                    asks,
+                    keys,
+                );
+                Decided {
+                    forwarding,
+                    verdict,
+                }
             }
             _ => Decided {
-                found: Found::Nothing(Discard::ByProgram),
+                forwarding: Forwarding::Nothing(Discard::ByProgram),
                 verdict,
             },
         }
@@ -480,10 +493,10 @@ impl Relay {
     }
 
     /// Finds what explains the step of a datagram, the first `n` bytes of the room, and runs its program over the room.
-    pub(crate) fn grounds(&mut self, meta: &Meta, n: usize) -> Grounds
+    pub(crate) fn evidence(&mut self, meta: &Meta, n: usize) -> Evidence
         requires { n ≤ MAX_DATAGRAM }
-        ensures grounds { (config : Config) → result
-            ≡ grounds_of config self.old meta.entry.now (datagram_at self.old n) }
+        ensures evidence { (config : Config) → result
+            ≡ evidence_of config self.old meta.entry.now (datagram_at self.old n) }
         ensures rest { self.new ≡ record self.old { frame = self.new.frame } }
     {
         let moment = moment_of(self.greatest, meta.now);
@@ -495,7 +508,7 @@ impl Relay {
         let mut last = LastSlot { slot: 0 };
         let end = trace_over(program, &mut self.frame, &helpers, &context, n, &mut last);
         let unsent = unsent_at(&meta.from, &helpers.live, &end);
-        Grounds {
+        Evidence {
             ruled,
             slot: last.slot,
             unsent,

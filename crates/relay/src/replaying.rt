@@ -92,7 +92,7 @@ impl Relay {
             self.old.config (state_of self.old) (event_in self.old.config.slots line.now)) }
         ensures failed { output.new.failed ≡ is_err result }
     {
-        let grounds = self.grounds_of_line(line, explains);
+        let evidence = self.evidence_of_line(line, explains);
         let slots = self.slots();
         match parse(line, slots, self.area()) {
             None => Ok(false),
@@ -107,7 +107,7 @@ impl Relay {
             }
             Some(Parsed::Datagram { meta, n }) => {
                 let step = self.step(meta, n);
-                write_with(output, &step.action, reason_by(step.disposition, grounds))?;
+                write_with(output, &step.action, reason_by(step.disposition, evidence))?;
                 Ok(true)
             }
         }

@@ -9,7 +9,7 @@ ghost use Rattle.machine.specs.Tracing.{run_over, EndsWith, Reports};
 ghost use Rattle.tables.specs.Rows.{rows_at};
 ghost use Rattle.programs.specs.Runs.{context_for};
 ghost use Rattle.relay.specs.ByPrograms.{program_for};
-ghost use Rattle.relay.specs.Found.{HasRun, answers_of_look_up, held_for};
+ghost use Rattle.relay.specs.Forwarding.{HasRun, answers_of_look_up, held_for};
 
 use events::{Meta, Source};
 use helpers::Lookup;

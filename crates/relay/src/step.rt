@@ -3,7 +3,7 @@
 ghost use Rattle.std.specs.Prelude.{◌≡◌, None, option_copied};
 ghost use Rattle.events.specs.Actions.{sending_of};
 ghost use Rattle.relay.specs.ByPrograms.{relayed_where_sent};
-ghost use Rattle.relay.specs.Found.{stopped_where_shown};
+ghost use Rattle.relay.specs.Forwarding.{stopped_where_shown};
 ghost use Rattle.rules.specs.declared.disposition.Disposition.TheVariants.{Discarded};
 
 use crate::choosing::Choice;

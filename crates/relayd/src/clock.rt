@@ -1,7 +1,7 @@
 //! The moments of datagrams.
 
 use libc::types::timespec;
-use server::Moments;
+use server::ServerClock;
 use std::rt::Clock;
 use std::time::Duration;
 
@@ -28,12 +28,12 @@ pub(crate) fn elapsed<R: Clock>(rt: &R) -> Duration {
 }
 
 /// Returns the clock of a server that starts now. Where the system's clock fails the start is 1970's.
-pub(crate) fn starting_now<R: Clock>(rt: &R) -> Moments {
+pub(crate) fn starting_now<R: Clock>(rt: &R) -> ServerClock {
     let start = rt.since_1970().unwrap_or(Duration::ZERO);
-    Moments::new(start, elapsed(rt))
+    ServerClock::new(start, elapsed(rt))
 }
 
 /// Returns the moment of a datagram that comes now: whole seconds since 1970.
-pub(crate) fn moment<R: Clock>(rt: &R, moments: &Moments) -> u64 {
+pub(crate) fn moment<R: Clock>(rt: &R, moments: &ServerClock) -> u64 {
     moments.at(elapsed(rt))
 }

@@ -17,8 +17,8 @@ use rand_core::Rng;
 use relay::{Disposition, Relay, Source};
 use replacing::{Contents, RereadFile, Sides};
 use server::{
-    Arrival, ClockOffset, Counters, Duty, LinkFault, Moments, Place, Ports, Schedule, TURNS, Timer,
-    TurnOutcome, Work, do_next, draw_nonce, serve_round, turn,
+    Arrival, ClockOffset, Counters, Duty, LinkFault, Place, Ports, Schedule, ServerClock, TURNS,
+    Timer, TurnOutcome, Work, do_next, draw_nonce, serve_round, turn,
 };
 use sockets::Sockets;
 use std::fs::File;
@@ -72,7 +72,7 @@ pub(crate) struct Server<'a> {
     pub(crate) shadows: Sides<'a>,
     /// The files of users, of secrets and of revoked users that are read again.
     pub(crate) reread: Vec<RereadFile<'a>>,
-    pub(crate) moments: Moments,
+    pub(crate) moments: ServerClock,
     pub(crate) nonces: Timer,
     /// How far the system's clock is ahead, where names expire by it.
     pub(crate) clock: Option<ClockOffset>,

@@ -2,7 +2,7 @@
 use Rattle.std.specs.Prelude.{◌≡◌, ℕ, ◌+◌, ◌-◌, ◌/◌, ◌^◌, ◌<◌, min, nat_lt, Bool, true, false, ℤ, pos, ◌+ℤ◌, ◌-ℤ◌, unsigned_abs, if◌then◌else◌}
 use Rattle.std.specs.Duration.{as_nanos, max_nanos}
 use Rattle.std.specs.declared.time.Duration.{Duration}
-use Rattle.server.specs.declared.moments.Moments.{Moments}
+use Rattle.server.specs.declared.clock.ServerClock.{ServerClock}
 use Rattle.server.specs.declared.timer.Timer.{Timer}
 
 -- one period after a moment, in nanoseconds, or the last moment that there is
@@ -15,7 +15,7 @@ IsTimerAfter old now true new = (new.every ≡ old.every) × (as_nanos new.next 
 IsTimerAfter old now false new = new ≡ old
 
 -- the second since 1970: that of the start, and what has passed since then by a clock that isn't set
-abbrev pub second_at : Moments → Duration → ℕ
+abbrev pub second_at : ServerClock → Duration → ℕ
 second_at clock elapsed = min (as_nanos clock.start + (as_nanos elapsed - as_nanos clock.elapsed)) max_nanos / 1_000_000_000
 
 -- the whole seconds of a time

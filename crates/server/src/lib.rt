@@ -3,12 +3,12 @@
 #![tactic(auto)]
 
 mod ahead;
+mod clock;
 mod counters;
 mod duties;
 mod hairpin;
 mod laws;
 mod link;
-mod moments;
 mod nonce;
 mod ports;
 mod recorder;
@@ -20,6 +20,7 @@ mod tokens;
 mod turning;
 
 pub use ahead::{Ahead, ROOM, Receipt, TURNS};
+pub use clock::{ClockOffset, ServerClock};
 pub use counters::{Counter, Counters, KINDS, Kind, REASONS, TurnOutcome, VERDICTS};
 pub use duties::{Duty, Work, do_next};
 pub use hairpin::Hairpin;
@@ -27,7 +28,6 @@ pub use laws::{
     law_each_datagram_is_counted_once, law_each_duty_has_its_turn, law_rounds_are_fair,
 };
 pub use link::{Link, LinkFault, Place};
-pub use moments::{ClockOffset, Moments};
 pub use nonce::draw_nonce;
 pub use ports::Ports;
 pub use recorder::Recorder;

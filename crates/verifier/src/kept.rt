@@ -3,7 +3,7 @@
 ghost use Rattle.std.specs.Prelude.{◌≡◌, ◌≤◌, ◌<◌, ℕ, true, false, None, [], length, slice_index_or, OnOk, IfOk, IfSome, IfNone, is_some};
 ghost use Rattle.insn.specs.Encoding.{slot_count};
 ghost use Rattle.insn.specs.declared.decoding.TheConstants.{MAX_SLOTS};
-ghost use Rattle.absstate.specs.MarkWords.{words_of};
+ghost use Rattle.absstate.specs.InitialisedWords.{words_of};
 ghost use Rattle.verifier.specs.Targets.{target_at};
 ghost use Rattle.verifier.specs.Signed.{signatures_of};
 ghost use Rattle.verifier.specs.Searches.{HasPassed, Finds, Weighs};
@@ -82,7 +82,7 @@ impl<D: Domain> KeptState<D> {
     ghost use Rattle.std.specs.Prelude.{◌≡◌, ◌≤◌, ◌+◌, true, IfOk};
     ghost use Rattle.semantics.specs.Machine.{State};
     ghost use Rattle.absstate.specs.Covers.{covers};
-    ghost use Rattle.absstate.specs.MarkWords.{words_of};
+    ghost use Rattle.absstate.specs.InitialisedWords.{words_of};
     ghost use Rattle.absstate.specs.Membership.{Loose, IsMember};
     ghost use Rattle.verifier.specs.declared.weights.TheConstants.{PART, SEARCH, WHOLE};
 

@@ -1,7 +1,7 @@
 use Rattle.std.proofs.Common.{◌≡◌, ℕ, zero, suc, ◌<◌, arith, length, true, List, [], ◌∷◌, refl, sym, ap, ◌∙◌, bit_and}
 use Rattle.std.proofs.lemmas.Bool.{ltb-true, not-true}
 use Rattle.std.specs.Prelude.{◌==◌, slice_index_or}
-use Rattle.absstate.specs.MarkWords.{words_of, are_within}
+use Rattle.absstate.specs.InitialisedWords.{words_of, are_within}
 use Rattle.absstate.specs.laws.Step.MemoryValues.{first_of_and, rest_of_and}
 use Rattle.absstate.specs.laws.Step.Packing.{ruled_out, same_item}
 use Rattle.absstate.specs.laws.Step.Words.{covered_within}

@@ -35,7 +35,7 @@ use Rattle.absstate.specs.declared.abstract_state.Anchor.TheVariants.{First, Mad
 use Rattle.absstate.specs.declared.abstract_state.AbstractValue.{AbstractValue}
 use Rattle.absstate.specs.declared.abstract_state.AbstractValue.TheVariants as known
 use Rattle.absstate.specs.declared.abstract_state.AbsState.{AbsState}
-use Rattle.absstate.specs.declared.abstract_state.Marks.{Marks}
+use Rattle.absstate.specs.declared.abstract_state.InitialisedBytes.{InitialisedBytes}
 use Rattle.absstate.specs.declared.memory.Region.{Region}
 use Rattle.absstate.specs.declared.memory.Region.TheVariants as regions
 use Rattle.absstate.specs.laws.Step.Bounds.{IsLeast}
@@ -142,7 +142,7 @@ module _ {D : Type 0} (Member : D → ℕ → Type 0) (mode : Mode) (places : Pl
       (member_written r k (value_at s.registers r) n held (register_proper s r member.tagged))
 
   -- memory is replaced by another one of the same length, and the marks by those of its cells
-  with_new_memory : (registers : List (AbstractValue D)) (marks : Marks) (memory : Memory) (n : ℕ) (p : Plan) → length registers ≡ 75 → ((r : Reg) → abstract_at registers r ≡ abstract_at a.values r) → length marks.cells ≡ STACK_BYTES → memory.length ≡ s.memory.length → IsMemory memory → ((i : ℕ) → i < 512 → IsMarkedCell mode (is_marked marks i) (slice_index_or memory.stack.cells i None))
+  with_new_memory : (registers : List (AbstractValue D)) (marks : InitialisedBytes) (memory : Memory) (n : ℕ) (p : Plan) → length registers ≡ 75 → ((r : Reg) → abstract_at registers r ≡ abstract_at a.values r) → length marks.cells ≡ STACK_BYTES → memory.length ≡ s.memory.length → IsMemory memory → ((i : ℕ) → i < 512 → IsMarkedCell mode (is_marked marks i) (slice_index_or memory.stack.cells i None))
       → ((g : ℕ) → g < GROUPS → IsValue Member mode places s.memory.length (group_at registers g) (pointer_in memory.stack.groups g)) → IsMemberAt Member mode places (record a { values = registers; marks = marks }) (record s { slot = n; memory = memory; plan = p })
   with_new_memory registers marks memory n p known same count size is cells groups = record {
     reaches = subst (λ (j : ℕ). a.proved ≤ℤ pos j) (sym size) member.reaches;

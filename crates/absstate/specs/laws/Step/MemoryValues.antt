@@ -33,7 +33,7 @@ use Rattle.absstate.specs.AbstractSteps as abstract
 use Rattle.absstate.specs.Membership.{Mode, Strict, Places, IsAnchorPlace, IsHeld, IsValue, IsMarkedCell, IsMemberAt}
 use Rattle.absstate.specs.declared.memory.Region.{Region}
 use Rattle.absstate.specs.declared.memory.Region.TheVariants as regions
-use Rattle.absstate.specs.declared.abstract_state.Marks.{Marks}
+use Rattle.absstate.specs.declared.abstract_state.InitialisedBytes.{InitialisedBytes}
 use Rattle.absstate.specs.laws.Step.Agreement.{Agree}
 use Rattle.absstate.specs.laws.Step.Anchors.{access_inside}
 use Rattle.absstate.specs.laws.Step.Bounds.{le_of, le_is_true, same_order}
@@ -62,7 +62,7 @@ both_true a b e q = ap (λ (test : Bool). test && b) e ∙ q
 cons_at : (stack : List (Option ℕ)) (i n : ℕ) → i < length stack → take (suc n) (drop i stack) ≡ get_or stack i None ∷ take n (drop (suc i) stack)
 cons_at stack i n lt = ap (take (suc n)) (drop-cons stack i None lt)
 
-marks_hold : (m : Marks) (stack : List (Option ℕ)) → length stack ≡ 512 → ((i : ℕ) → i < 512 → is_marked m i ≡ true → is_some (slice_index_or stack i None) ≡ true)
+marks_hold : (m : InitialisedBytes) (stack : List (Option ℕ)) → length stack ≡ 512 → ((i : ℕ) → i < 512 → is_marked m i ≡ true → is_some (slice_index_or stack i None) ≡ true)
     → (n i : ℕ) → i + n ≤ 512 → are_marked m i n ≡ true → is_some (cells_number (part n i stack)) ≡ true
 marks_hold m stack count held zero i short e = refl
 marks_hold m stack count held (suc n) i short e =
@@ -71,7 +71,7 @@ marks_hold m stack count held (suc n) i short e =
     let on : is_some (cells_number (part n (suc i) stack)) ≡ true = marks_hold m stack count held n (suc i) (omega arith) (rest_of_and (is_marked m i) (are_marked m (suc i) n) e) in
     ap (λ cells. is_some (cells_number cells)) (cons_at stack i n (omega arith)) ∙ is_number front (part n (suc i) stack) ∙ both_true (is_some front) (is_some (cells_number (part n (suc i) stack))) here on
 
-marks_are : (m : Marks) (stack : List (Option ℕ)) → length stack ≡ 512 → ((i : ℕ) → i < 512 → is_some (slice_index_or stack i None) ≡ is_marked m i)
+marks_are : (m : InitialisedBytes) (stack : List (Option ℕ)) → length stack ≡ 512 → ((i : ℕ) → i < 512 → is_some (slice_index_or stack i None) ≡ is_marked m i)
     → (n i : ℕ) → i + n ≤ 512 → is_some (cells_number (part n i stack)) ≡ are_marked m i n
 marks_are m stack count same zero i short = refl
 marks_are m stack count same (suc n) i short =
@@ -154,7 +154,7 @@ module _ (claimed : Reason → Type 0) (mode : Mode) (unset : claimed UninitStac
   cells_agree P false None held same is = λ c. refl
   cells_agree P false (Some x) held same is = λ c. let bad : true ≡ false = same (unset c) in absurd cc
 
-  stack_read : (m : Marks) (stack : List (Option ℕ)) → length stack ≡ 512 → ((i : ℕ) → i < 512 → IsMarkedCell mode (is_marked m i) (slice_index_or stack i None))
+  stack_read : (m : InitialisedBytes) (stack : List (Option ℕ)) → length stack ≡ 512 → ((i : ℕ) → i < 512 → IsMarkedCell mode (is_marked m i) (slice_index_or stack i None))
       → All (λ c. (b : ℕ) → c ≡ Some b → b < 256) stack → (n i : ℕ) → i + n ≤ 512
       → Agree claimed (IsReadNumber n) (check (are_marked m i n) UninitStack) (ok_or (cells_number (part n i stack)) UninitStack)
   stack_read m stack count cells fit n i short =
@@ -175,7 +175,7 @@ module _ (claimed : Reason → Type 0) (mode : Mode) (unset : claimed UninitStac
 
 -- ---- groups
 
-marked_inside : (m : Marks) (n i j : ℕ) → are_marked m i n ≡ true → i ≤ j → j < i + n → is_marked m j ≡ true
+marked_inside : (m : InitialisedBytes) (n i j : ℕ) → are_marked m i n ≡ true → i ≤ j → j < i + n → is_marked m j ≡ true
 marked_inside m zero i j e from to = absurd (omega (arith, from, to))
 marked_inside m (suc n) i j e from to = elim (cases_eq j i) [
   | inl same ↦ subst (λ (k : ℕ). is_marked m k ≡ true) (sym same) (first_of_and (is_marked m i) (are_marked m (suc i) n) e)

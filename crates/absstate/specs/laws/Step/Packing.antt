@@ -6,7 +6,7 @@ use Rattle.interval.specs.Domains.{Operations}
 use Rattle.absstate.specs.Covers.{covers_value, covers_values, share_alike, covers_marks, covers_memory, covers}
 use Rattle.std.proofs.lemmas.List.{length-take-le, take_all, take_at, drop_at, drop_all, drop-drop, length-append, length-replicate}
 use Rattle.absstate.specs.AbstractStates.{no_groups}
-use Rattle.absstate.specs.MarkWords.{words_of, are_within, marks_of}
+use Rattle.absstate.specs.InitialisedWords.{words_of, are_within, marks_of}
 use Rattle.absstate.specs.Packing.{are_unknown, all_groups, joined, unpacked, IsPartOf, Differs}
 use Rattle.absstate.specs.laws.Step.Covering.{values_at}
 use Rattle.absstate.specs.laws.Step.Words.{covered_within, marks_of_words, words_cover}

@@ -9,7 +9,7 @@ use Rattle.std.proofs.lemmas.Bool.{eqb-true, cases_lt, or_left, or_right}
 use Rattle.interval.specs.Domains.{Operations, AreSound, LieBetween}
 use Rattle.interval.specs.declared.domain.Bounds.{Bounds}
 use Rattle.absstate.specs.Covers.{covers_places, proves_less, covers_anchor, covers_value, covers_values, same_int, covers}
-use Rattle.absstate.specs.MarkWords.{words_of, are_within}
+use Rattle.absstate.specs.InitialisedWords.{words_of, are_within}
 use Rattle.absstate.specs.Signatures.{hashed_bit, number_bit, proved_bit, value_bit, value_bits, marked_with, mark_bits, value_margins, added_margins, margins_of, hashed_pair, value_hash, values_hash, lie_within, state_signature, word_within, marks_within, above_of, margins_within, lies_within}
 use Rattle.absstate.specs.AbstractStates.{proved_from}
 use Rattle.absstate.specs.laws.Step.Covering.{int_same}

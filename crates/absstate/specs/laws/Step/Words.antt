@@ -11,7 +11,7 @@ use Rattle.std.proofs.lemmas.List.{take-append-drop, drop-drop, drop_all, length
 use Rattle.std.proofs.lemmas.Nat.Bits.{bit_at_and, bit_at_or, same_from_bits}
 use Rattle.interval.specs.Domains.{Operations}
 use Rattle.absstate.specs.Covers.{covers_values, share_alike, covers_marks, covers}
-use Rattle.absstate.specs.MarkWords.{bit_of, shifted, word_of, word_at, words_of, are_within, bits_of, marks_of}
+use Rattle.absstate.specs.InitialisedWords.{bit_of, shifted, word_of, word_at, words_of, are_within, bits_of, marks_of}
 use Rattle.absstate.specs.laws.Step.MemoryValues.{first_of_and, rest_of_and, both_true}
 use Rattle.absstate.specs.declared.abstract_state.AbsState.{AbsState}
 

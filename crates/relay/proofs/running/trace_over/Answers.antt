@@ -1,7 +1,7 @@
 use Rattle.std.proofs.Common.{◌≡◌, ℕ, List, subst}
 use Rattle.insn.specs.declared.instruction.Insn.{Insn}
 use Rattle.machine.specs.Tracing.{EndsWith, Reports, run_of}
-use Rattle.relay.specs.Found.{answers_of_look_up}
+use Rattle.relay.specs.Forwarding.{answers_of_look_up}
 use Rattle.relay.proofs.Frames.{ends_over, ends_with, reports_over}
 use Rattle.relay.proofs.running.trace_over.Goals as goal
 

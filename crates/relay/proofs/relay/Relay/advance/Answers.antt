@@ -7,14 +7,14 @@ use Rattle.programs.specs.Runs.{planned_sending}
 use Rattle.relay.specs.ByPrograms.{let_through}
 use Rattle.relay.specs.Choices.{Passing, Relaying, chosen_at, chosen_of}
 use Rattle.relay.specs.EventRuns.{verdict_of_datagram}
-use Rattle.relay.specs.Found.{asked, chosen_of_found, reply_of_passing, run_at, sending_of_found, disposition_of_found, window_shown, HasRun}
+use Rattle.relay.specs.Forwarding.{asked, chosen_of_forwarding, reply_of_passing, run_at, sending_of_forwarding, disposition_of_forwarding, window_shown, HasRun}
 use Rattle.relay.specs.Relays.{RelayContents, datagram_at}
 use Rattle.relay.specs.KeysCompared.{keys_of_step}
 use Rattle.relay.specs.Steps.{HasStepped, outcome_of, disposition_of_step}
 use Rattle.rules.specs.Systems.{SystemReply, no_answer, reply_of_relaying}
 use Rattle.relay.specs.Unconfined.{asking}
 use Rattle.relay.specs.contracts.relay.Relay.{the_view}
-use Rattle.relay.specs.declared.found.Found.TheVariants as found
+use Rattle.relay.specs.declared.forwarding.Forwarding.TheVariants as forwarding
 use Rattle.relay.proofs.Advances.{reply_at, steps, stays, answers, passes_client, passes_peer, sends, discards, done_then, does_pass_client, does_pass_peer, does_send, does_discard, verdict_is, verdict_then}
 use Rattle.relay.proofs.ChosenRuns.{chooses_no_passing, chooses_nothing, chooses_passing, chooses_sending, of_window}
 use Rattle.relay.proofs.KeyCounts.{by_asking, by_rules, slot_alone}
@@ -53,9 +53,9 @@ returns-in-Client-clause-stepped g c =
     (ap (λ (r : RelayContents). r.config) rest)
     (ap (λ (r : RelayContents). r.programs) rest))
 
-pub returns-in-Client-clause-found : goal.returns-in-Client-clause-found
-returns-in-Client-clause-found g c =
-    ap (λ (s : Source). sending_of_found c.pass_on.new.self s (found.Answer c.pass_on.result)) c.in-Client.is
+pub returns-in-Client-clause-forwarding : goal.returns-in-Client-clause-forwarding
+returns-in-Client-clause-forwarding g c =
+    ap (λ (s : Source). sending_of_forwarding c.pass_on.new.self s (forwarding.Answer c.pass_on.result)) c.in-Client.is
     ∙ c.pass_on.ensures.answer
     ∙ sym (ap (λ (r : SystemReply). r.answer) (client_reply g c))
     ∙ answers (the_view c.self.inside) (asked c.args.asks c.self.inside.confinement) c.args.meta.now c.args.n c.moment_of-self-inside.result c.moment_of-self-inside.ensures
@@ -75,15 +75,15 @@ returns-in-Peer-clause-stepped g c =
     (stays (the_view c.self.inside) (asked c.args.asks c.self.inside.confinement) c.args.meta.now c.args.n c.moment_of-self-inside.result (shown g c.before.before) c.moment_of-self-inside.ensures
     refl (ap (λ (r : SystemReply). r.rows) (not_passed g c)))
 
-pub returns-in-Peer-clause-found : goal.returns-in-Peer-clause-found
-returns-in-Peer-clause-found g c =
+pub returns-in-Peer-clause-forwarding : goal.returns-in-Peer-clause-forwarding
+returns-in-Peer-clause-forwarding g c =
     sym (ap (λ (r : SystemReply). r.answer) (not_passed g c))
     ∙ answers (the_view c.self.inside) (asked c.args.asks c.self.inside.confinement) c.args.meta.now c.args.n c.moment_of-self-inside.result c.moment_of-self-inside.ensures
     ∙ (λ i. (outcome_of (asking c.args.asks (c.self.view_is i)) c.args.meta.now c.args.n).answer)
 
 -- ---- where the plan is sent
 
-plan_reply : (g : _) (c : goal.After-window_found-found g) → reply_at (the_view c.self.inside) (asked c.args.asks c.self.inside.confinement) c.args.meta.now c.args.n c.moment_of-self-inside.result
+plan_reply : (g : _) (c : goal.After-window_forwarding-forwarding g) → reply_at (the_view c.self.inside) (asked c.args.asks c.self.inside.confinement) c.args.meta.now c.args.n c.moment_of-self-inside.result
     ≡ reply_of_relaying c.self.inside.tables (let_through (asked c.args.asks c.self.inside.confinement) c.args.meta.now.from (rows_at c.moment_of-self-inside.result c.self.inside.tables)
     (planned_sending c.args.meta.now.from (rows_at c.moment_of-self-inside.result c.self.inside.tables) c.run_over-outcome.result.destination (window_shown c.run_over-outcome.new.frame)))
 plan_reply g c =
@@ -97,9 +97,9 @@ returns-in-2-clause-stepped g c =
     (stays (the_view c.self.inside) (asked c.args.asks c.self.inside.confinement) c.args.meta.now c.args.n c.moment_of-self-inside.result (shown g c.before.before.before.before.before) c.moment_of-self-inside.ensures
     refl (ap (λ (r : SystemReply). r.rows) (plan_reply g c)))
 
-pub returns-in-2-clause-found : goal.returns-in-2-clause-found
-returns-in-2-clause-found g c =
-    c.window_found-found.ensures.sends (shown g c.before.before.before.before.before)
+pub returns-in-2-clause-forwarding : goal.returns-in-2-clause-forwarding
+returns-in-2-clause-forwarding g c =
+    c.window_forwarding-forwarding.ensures.sends (shown g c.before.before.before.before.before)
     (rows_at-well_formed c.moment_of-self-inside.result c.self.inside.tables c.law_are_well_formed.ensures) (c.new-helpers.ensures ∙ c.live_for.ensures.live)
     ∙ sym (ap (λ (r : SystemReply). r.answer) (plan_reply g c))
     ∙ answers (the_view c.self.inside) (asked c.args.asks c.self.inside.confinement) c.args.meta.now c.args.n c.moment_of-self-inside.result c.moment_of-self-inside.ensures
@@ -119,8 +119,8 @@ returns-in_default-clause-stepped g c =
     (stays (the_view c.self.inside) (asked c.args.asks c.self.inside.confinement) c.args.meta.now c.args.n c.moment_of-self-inside.result (shown g c.before) c.moment_of-self-inside.ensures
     refl (ap (λ (r : SystemReply). r.rows) (discarded g c)))
 
-pub returns-in_default-clause-found : goal.returns-in_default-clause-found
-returns-in_default-clause-found g c =
+pub returns-in_default-clause-forwarding : goal.returns-in_default-clause-forwarding
+returns-in_default-clause-forwarding g c =
     sym (ap (λ (r : SystemReply). r.answer) (discarded g c))
     ∙ answers (the_view c.self.inside) (asked c.args.asks c.self.inside.confinement) c.args.meta.now c.args.n c.moment_of-self-inside.result c.moment_of-self-inside.ensures
     ∙ (λ i. (outcome_of (asking c.args.asks (c.self.view_is i)) c.args.meta.now c.args.n).answer)
@@ -129,7 +129,7 @@ returns-in_default-clause-found g c =
 
 pub returns-in-Client-clause-disposition : goal.returns-in-Client-clause-disposition
 returns-in-Client-clause-disposition g c =
-    ap (λ (s : Source). disposition_of_found c.pass_on.new.self s (found.Answer c.pass_on.result)) c.in-Client.is
+    ap (λ (s : Source). disposition_of_forwarding c.pass_on.new.self s (forwarding.Answer c.pass_on.result)) c.in-Client.is
     ∙ c.pass_on.ensures.disposition
     ∙ sym (does_pass_client (the_view c.self.inside) (asked c.args.asks c.self.inside.confinement) c.args.meta.now c.args.n c.moment_of-self-inside.result c.run_over-outcome.result (shown g c.before.before.before.before.before)
     (ran g c.before.before.before.before.before) (search rules) c.in-Client.client c.in-Client.is c.in-1.is
@@ -146,7 +146,7 @@ returns-in-Peer-clause-disposition g c =
 
 pub returns-in-2-clause-disposition : goal.returns-in-2-clause-disposition
 returns-in-2-clause-disposition g c =
-    c.window_found-found.ensures.disposition (shown g c.before.before.before.before.before)
+    c.window_forwarding-forwarding.ensures.disposition (shown g c.before.before.before.before.before)
     (rows_at-well_formed c.moment_of-self-inside.result c.self.inside.tables c.law_are_well_formed.ensures) (c.new-helpers.ensures ∙ c.live_for.ensures.live)
     ∙ sym (does_send (the_view c.self.inside) (asked c.args.asks c.self.inside.confinement) c.args.meta.now c.args.n c.moment_of-self-inside.result c.run_over-outcome.result (shown g c.before.before.before.before.before) (ran g c.before.before.before.before.before) (search rules) c.in-2.is)
     ∙ done_then (the_view c.self.inside) (asked c.args.asks c.self.inside.confinement) c.args.meta.now c.args.n c.moment_of-self-inside.result c.moment_of-self-inside.ensures
@@ -193,7 +193,7 @@ returns-in_default-clause-verdict g c =
 
 pub returns-in-Client-clause-choice : goal.returns-in-Client-clause-choice
 returns-in-Client-clause-choice g c =
-    (λ i. chosen_of_found c.pass_on.new.self (c.in-Client.is i) (found.Answer c.pass_on.result))
+    (λ i. chosen_of_forwarding c.pass_on.new.self (c.in-Client.is i) (forwarding.Answer c.pass_on.result))
     ∙ ap (λ (r : RelayContents). Passing (datagram_of r.frame)) c.pass_on.ensures.rest
     ∙ sym (chooses_passing (asking c.args.asks (the_view c.self.inside)) c.args.meta.now c.args.n c.moment_of-self-inside.result c.run_over-outcome.result (shown g c.before.before.before.before.before)
     (ran g c.before.before.before.before.before) (search rules) c.in-Client.client c.in-Client.is c.in-1.is)
@@ -209,8 +209,8 @@ returns-in-Peer-clause-choice g c =
 
 pub returns-in-2-clause-choice : goal.returns-in-2-clause-choice
 returns-in-2-clause-choice g c =
-    of_window (shown g c.before.before.before.before.before) c.args.meta.now.from c.window_found-found.result c.window_found-found.ensures.window
-    ∙ ap Relaying (c.window_found-found.ensures.sends (shown g c.before.before.before.before.before)
+    of_window (shown g c.before.before.before.before.before) c.args.meta.now.from c.window_forwarding-forwarding.result c.window_forwarding-forwarding.ensures.window
+    ∙ ap Relaying (c.window_forwarding-forwarding.ensures.sends (shown g c.before.before.before.before.before)
     (rows_at-well_formed c.moment_of-self-inside.result c.self.inside.tables c.law_are_well_formed.ensures) (c.new-helpers.ensures ∙ c.live_for.ensures.live))
     ∙ sym (chooses_sending (asking c.args.asks (the_view c.self.inside)) c.args.meta.now c.args.n c.moment_of-self-inside.result c.run_over-outcome.result (shown g c.before.before.before.before.before)
     (ran g c.before.before.before.before.before) (search rules) c.in-2.is)
@@ -238,8 +238,8 @@ returns-in-Peer-clause-keys g c =
 
 pub returns-in-2-clause-keys : goal.returns-in-2-clause-keys
 returns-in-2-clause-keys g c =
-    let P : RelayContents → Type 0 = λ r. g.C.Count.count c.window_found-found.new.keys ≤ g.C.Count.count c.args.keys.now + keys_of_step r.programs.confinement in
-    subst P c.self.view_is (by_asking c.self.inside.confinement _ _ c.live_for.ensures.keys _ c.window_found-found.ensures.keys)
+    let P : RelayContents → Type 0 = λ r. g.C.Count.count c.window_forwarding-forwarding.new.keys ≤ g.C.Count.count c.args.keys.now + keys_of_step r.programs.confinement in
+    subst P c.self.view_is (by_asking c.self.inside.confinement _ _ c.live_for.ensures.keys _ c.window_forwarding-forwarding.ensures.keys)
 
 pub returns-in_default-clause-keys : goal.returns-in_default-clause-keys
 returns-in_default-clause-keys g c =

@@ -18,9 +18,9 @@ pub returns-clause-stepped : goal.returns-clause-stepped
 returns-clause-stepped c =
     subst (HasStepped c.args.self.now c.advance-2.new.self) (same_outcome (not c.advance.inside.are_shipped) c.args.self.now c.args.meta.now c.args.n (same c)) c.advance-2.ensures.stepped
 
-pub returns-clause-found : goal.returns-clause-found
-returns-clause-found c =
-    c.advance-2.ensures.found ∙ ap (λ (o : SystemOutcome). o.answer) (same_outcome (not c.advance.inside.are_shipped) c.args.self.now c.args.meta.now c.args.n (same c))
+pub returns-clause-forwarding : goal.returns-clause-forwarding
+returns-clause-forwarding c =
+    c.advance-2.ensures.forwarding ∙ ap (λ (o : SystemOutcome). o.answer) (same_outcome (not c.advance.inside.are_shipped) c.args.self.now c.args.meta.now c.args.n (same c))
 
 pub returns-clause-disposition : goal.returns-clause-disposition
 returns-clause-disposition c =

@@ -3,7 +3,7 @@ use Rattle.std.proofs.lemmas.List.{with_items_is}
 use Rattle.rules.specs.Answers.{sending_of_answer}
 use Rattle.rules.specs.ByRules.{from_client}
 use Rattle.rules.specs.Dispositions.{client_disposition}
-use Rattle.relay.specs.Found.{reply_of_passing, disposition_of_passing}
+use Rattle.relay.specs.Forwarding.{reply_of_passing, disposition_of_passing}
 use Rattle.relay.proofs.relay.Relay.pass_on.Goals as goal
 
 pub returns-clause-answer : goal.returns-clause-answer

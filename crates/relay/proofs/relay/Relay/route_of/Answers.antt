@@ -10,7 +10,7 @@ use Rattle.programs.specs.Runs.{planned_sending}
 use Rattle.rules.specs.declared.confinement.Confinement.{Confinement}
 use Rattle.relay.specs.ByPrograms.{let_through}
 use Rattle.relay.specs.Choices.{Relaying, with_program}
-use Rattle.relay.specs.Found.{window_shown}
+use Rattle.relay.specs.Forwarding.{window_shown}
 use Rattle.relay.specs.Relays.{RelayContents}
 use Rattle.relay.proofs.ChosenRuns.{chooses_no_passing, chooses_nothing, chooses_passing, chooses_sending}
 use Rattle.relay.proofs.relay.Relay.route_of.Goals as goal
@@ -43,8 +43,8 @@ returns-in-2 c =
     let of = c.args.self.now in let by = c.args.program.now in let given = c.args.meta.now in let at = c.args.frame.now in let left = c.run_beside-outcome.new.frame in
     let now = moment of by given at left in
     let planned = planned_sending given.from (rows_at now of.rows) c.run_beside-outcome.result.destination (window_shown left) in
-    c.route_found.ensures (shown of by given at left) given.from
-    ∙ ap Relaying (c.window_found-found.ensures.sends (shown of by given at left) (rows_at-well_formed now of.rows c.law_rows_are_well_formed.ensures) c.helpers_for-helpers.ensures
+    c.route_of_forwarding.ensures (shown of by given at left) given.from
+    ∙ ap Relaying (c.window_forwarding-forwarding.ensures.sends (shown of by given at left) (rows_at-well_formed now of.rows c.law_rows_are_well_formed.ensures) c.helpers_for-helpers.ensures
     ∙ ap (λ (k : Option Confinement). let_through k given.from (rows_at now of.rows) planned) c.confinement-confinement.ensures)
     ∙ sym (chooses_sending (was of by given at left) given c.args.n now c.run_beside-outcome.result (shown of by given at left) c.run_beside-outcome.ensures
     (sym c.serves.ensures ∙ c.if-not-serves.false) c.in-2.is)

@@ -8,7 +8,7 @@ use Rattle.tables.specs.laws.WellFormed.{rows_at-well_formed}
 use Rattle.programs.specs.Runs.{run_for}
 use Rattle.semantics.specs.Runs.{Run}
 use Rattle.relay.specs.ByPrograms.{Programs, program_for}
-use Rattle.relay.specs.Found.{held_for}
+use Rattle.relay.specs.Forwarding.{held_for}
 use Rattle.relay.specs.EventRuns.{run_of_datagram}
 use Rattle.relay.specs.Relays.{datagram_at}
 use Rattle.relay.proofs.LiveSlots.{answers_for}

@@ -1,7 +1,0 @@
-use Rattle.std.proofs.Common.{refl}
-use Rattle.absstate.specs.AbstractStates.{no_marks}
-use Rattle.absstate.proofs.abstract_state.Marks.none.Goals as goal
-
-pub returns : goal.returns
-unfolding no_marks
-returns c = refl
