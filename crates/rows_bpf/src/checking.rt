@@ -7,7 +7,7 @@ use crate::explanations::{cost, explained};
 use crate::frames::Frames;
 use crate::kinds::RowKind;
 use crate::known::KnownNumber;
-use crate::line::{Row, RowLine};
+use crate::line::{ProgramRow, RowLine};
 use crate::one_peer::OnePeer;
 use crate::operators;
 use crate::orders::ordered;
@@ -70,7 +70,7 @@ impl Checks {
     }
 
     /// Returns what comes of loading the program of a row. Where it is accepted, its run agrees with its trace.
-    fn verify(&mut self, row: &Row<'_>) -> Result<String> {
+    fn verify(&mut self, row: &ProgramRow<'_>) -> Result<String> {
         let line = verified(self.alloc, &file_of(self.alloc, row.given)?)?;
         if line.starts_with("accepted") {
             self.check_run(row.given)?;
@@ -79,14 +79,14 @@ impl Checks {
     }
 
     /// Returns the trace of the program of a row, whose run agrees with it where it is accepted.
-    fn trace(&mut self, row: &Row<'_>) -> Result<String> {
+    fn trace(&mut self, row: &ProgramRow<'_>) -> Result<String> {
         let (_, program) = row.parts();
         self.check_run(program)?;
         traced(self.alloc, row)
     }
 
     /// Returns what is answered to a row.
-    fn answer(&mut self, kind: RowKind, row: &Row<'_>) -> Result<String> {
+    fn answer(&mut self, kind: RowKind, row: &ProgramRow<'_>) -> Result<String> {
         let alloc = self.alloc;
         match kind {
             RowKind::Assemble => assembled(alloc, row),
@@ -128,11 +128,11 @@ impl Checks {
     /// Checks the row of a line, and prints it where the answer isn't what is expected.
     fn check_row<R: Print>(&mut self, rt: &R, number: u64, line: &str) -> Result<()> {
         let line = expanded(self.alloc, &self.names, line)?;
-        let row = Row::parse(&line)?;
+        let row = ProgramRow::parse(&line)?;
         let kind = RowKind::of(row.kind).context("no such kind of row")?;
         let got = self.answer(kind, &row)?;
         let section = self.count_row()?;
-        let Row { kind, expected, .. } = row;
+        let ProgramRow { kind, expected, .. } = row;
         if got.as_str() != expected {
             println!(rt; "{section}, line {number}: {kind}: got {got}, expected {expected}")?;
             self.failures = self.failures.saturating_add(1);

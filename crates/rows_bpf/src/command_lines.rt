@@ -1,6 +1,6 @@
 //! Rows of command lines: `parsed` and `refused`.
 
-use crate::line::Row;
+use crate::line::ProgramRow;
 use anyhow::{Context, Result, ensure};
 use clap::error::Error;
 use command_line::{line, subcommand_of};
@@ -28,7 +28,7 @@ fn words_of(alloc: Global, text: &str) -> Result<Vec<&str>> {
 ///
 /// # Errors
 /// Where a quote isn't closed, or memory runs out.
-pub fn parsed(alloc: Global, row: &Row<'_>) -> Result<String> {
+pub fn parsed(alloc: Global, row: &ProgramRow<'_>) -> Result<String> {
     let words = words_of(alloc, row.given)?;
     let matches = match line(alloc, &words) {
         Ok(matches) => matches,
@@ -75,7 +75,7 @@ fn error_text(alloc: Global, error: &Error, parts: &str) -> Result<String> {
 ///
 /// # Errors
 /// Where a quote isn't closed, no parts are expected, or memory runs out.
-pub fn refused(alloc: Global, row: &Row<'_>) -> Result<String> {
+pub fn refused(alloc: Global, row: &ProgramRow<'_>) -> Result<String> {
     let (_, parts) = row
         .expected
         .split_once(": ")

@@ -1,6 +1,6 @@
 //! Rows of explanations: `explain`.
 
-use crate::line::Row;
+use crate::line::ProgramRow;
 use crate::program::{file_of, joined};
 use anyhow::{Result, bail};
 use explaining::{Explained, explain_file};
@@ -11,7 +11,7 @@ use std::alloc::Global;
 ///
 /// # Errors
 /// Where the slot is no number, the program is refused by the assembler, or memory runs out.
-pub fn explained(alloc: Global, row: &Row<'_>) -> Result<String> {
+pub fn explained(alloc: Global, row: &ProgramRow<'_>) -> Result<String> {
     let (slot, program) = row.parts();
     let slot = if slot.is_empty() {
         None
@@ -34,7 +34,7 @@ pub fn explained(alloc: Global, row: &Row<'_>) -> Result<String> {
 ///
 /// # Errors
 /// Where the program is refused by the assembler or the loader, or memory runs out.
-pub fn cost(alloc: Global, row: &Row<'_>) -> Result<String> {
+pub fn cost(alloc: Global, row: &ProgramRow<'_>) -> Result<String> {
     let file = file_of(alloc, row.given)?;
     let mut out = Vec::new(alloc);
     match explain_file(alloc, &file, None, &mut out)? {

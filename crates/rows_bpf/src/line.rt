@@ -40,21 +40,21 @@ impl<'a> RowLine<'a> {
 
 /// A row: the word that says what is asked, what is given, and what is expected.
 #[derive(Clone, Copy, Debug, PartialEq, Eq)]
-pub struct Row<'a> {
+pub struct ProgramRow<'a> {
     pub kind: &'a str,
     pub given: &'a str,
     pub expected: &'a str,
 }
 
-impl<'a> Row<'a> {
+impl<'a> ProgramRow<'a> {
     /// Parses the line of a row.
     ///
     /// # Errors
     /// Where nothing is given, or nothing is expected.
-    pub fn parse(line: &'a str) -> Result<Row<'a>> {
+    pub fn parse(line: &'a str) -> Result<ProgramRow<'a>> {
         let (asked, expected) = line.split_once(" -> ").context("no ` -> `")?;
         let (kind, given) = asked.split_once(' ').context("nothing is given")?;
-        Ok(Row {
+        Ok(ProgramRow {
             kind,
             given: given.trim(),
             expected: expected.trim(),

@@ -1,6 +1,6 @@
 //! Rows of abstract numbers: `interval` and `known`.
 
-use crate::line::Row;
+use crate::line::ProgramRow;
 use crate::numbers::{abstract_number, bounds_text, number_of};
 use crate::program::insn_of;
 use anyhow::{Context, Result, bail};
@@ -108,7 +108,7 @@ fn result_of<D: Domain>(
 ///
 /// # Errors
 /// Where a number or a mnemonic is none, or memory runs out.
-pub fn answered<D: Domain>(alloc: Global, row: &Row<'_>) -> Result<String> {
+pub fn answered<D: Domain>(alloc: Global, row: &ProgramRow<'_>) -> Result<String> {
     let (word, rest) = row.given.split_once(' ').unwrap_or((row.given, ""));
     match word {
         "top" => Ok(text_of(alloc, D::top(), row.expected)?),

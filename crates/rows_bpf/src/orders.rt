@@ -1,6 +1,6 @@
 //! Rows of programs that are put in order: `order`.
 
-use crate::line::Row;
+use crate::line::ProgramRow;
 use crate::program::{file_of, joined};
 use anyhow::Result;
 use disasm::disassemble;
@@ -12,7 +12,7 @@ use std::alloc::Global;
 ///
 /// # Errors
 /// Where the program is refused by the assembler, or memory runs out.
-pub fn ordered(alloc: Global, row: &Row<'_>) -> Result<String> {
+pub fn ordered(alloc: Global, row: &ProgramRow<'_>) -> Result<String> {
     if row.given == "empty" {
         let code = order(alloc, &[])?;
         let answer = if code.is_empty() {

@@ -1,6 +1,6 @@
 //! Rows of reports: `report`.
 
-use crate::line::Row;
+use crate::line::ProgramRow;
 use crate::program::{file_of, joined};
 use crate::texts::unquoted;
 use anyhow::{Result, bail};
@@ -83,7 +83,7 @@ impl Printed {
 ///
 /// # Errors
 /// Where the row asks for no report, its program is refused by the assembler, or memory runs out.
-pub fn reported(alloc: Global, row: &Row<'_>) -> Result<String> {
+pub fn reported(alloc: Global, row: &ProgramRow<'_>) -> Result<String> {
     let (ask, program) = row.parts();
     let file = file_of(alloc, program)?;
     let printed = match ask {

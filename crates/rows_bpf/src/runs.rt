@@ -1,7 +1,7 @@
 //! Rows of runs: `run` and `run_with_peer`.
 
 use crate::frames::{Frames, context_of};
-use crate::line::Row;
+use crate::line::ProgramRow;
 use crate::numbers::number_text;
 use crate::program::{bytes_of, file_of};
 use anyhow::{Context, Result, bail};
@@ -80,7 +80,7 @@ fn left_text(alloc: Global, outcome: &Outcome, frames: &Frames, expected: &str) 
 pub fn ran<H: Helpers>(
     alloc: Global,
     frames: &mut Frames,
-    row: &Row<'_>,
+    row: &ProgramRow<'_>,
     helpers: &H,
 ) -> Result<String> {
     let (given, program) = row.parts();

@@ -1,6 +1,6 @@
 //! Rows of abstract states over intervals: `state`, `step` and `walk`.
 
-use crate::line::Row;
+use crate::line::ProgramRow;
 use crate::program::code_of;
 use absstate::{AbsState, AbstractValue, Anchor, Next};
 use anyhow::{Context, Result, bail};
@@ -244,7 +244,7 @@ fn last_step(
 ///
 /// # Errors
 /// Where the program is refused, it doesn't lead on, or memory runs out.
-pub fn known_after(alloc: Global, row: &Row<'_>) -> Result<String> {
+pub fn known_after(alloc: Global, row: &ProgramRow<'_>) -> Result<String> {
     let code = code_of(alloc, row.given)?;
     let mut state = State::start();
     for insn in &code {
@@ -266,7 +266,7 @@ pub fn known_after(alloc: Global, row: &Row<'_>) -> Result<String> {
 ///
 /// # Errors
 /// Where there is no instruction, a program is refused or doesn't lead on, or memory runs out.
-pub fn stepped(alloc: Global, row: &Row<'_>) -> Result<String> {
+pub fn stepped(alloc: Global, row: &ProgramRow<'_>) -> Result<String> {
     let (program, insns) = row.given.split_once(" | ").context("no ` | `")?;
     let code = code_of(alloc, program)?;
     let insns = code_of(alloc, insns)?;
@@ -305,7 +305,7 @@ pub fn stepped(alloc: Global, row: &Row<'_>) -> Result<String> {
 ///
 /// # Errors
 /// Where the program is refused or doesn't lead on, or memory runs out.
-pub fn walked(alloc: Global, row: &Row<'_>) -> Result<String> {
+pub fn walked(alloc: Global, row: &ProgramRow<'_>) -> Result<String> {
     let code = code_of(alloc, row.given)?;
     let mut text = String::new(alloc);
     let mut state = State::start();

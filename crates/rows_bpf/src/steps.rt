@@ -5,7 +5,7 @@ ghost use Rattle.insn.specs.Encoding.{slot_count};
 ghost use Rattle.insn.specs.declared.decoding.TheConstants.{MAX_SLOTS};
 
 use crate::known::KnownNumber;
-use crate::line::Row;
+use crate::line::ProgramRow;
 use crate::program::file_of;
 use crate::verdicts::{over_both, verdict_over};
 use anyhow::Result;
@@ -57,7 +57,7 @@ fn steps_over<D: Domain>(alloc: Global, code: &[Insn]) -> Result<String, AllocEr
 ///
 /// # Errors
 /// Where the program is refused by the assembler, or memory runs out.
-pub fn counted_steps(alloc: Global, row: &Row<'_>) -> Result<String> {
+pub fn counted_steps(alloc: Global, row: &ProgramRow<'_>) -> Result<String> {
     let file = file_of(alloc, row.given)?;
     let code = decode(alloc, &file)?;
     let known = steps_over::<KnownNumber>(alloc, &code)?;

@@ -5,7 +5,7 @@ ghost use Rattle.insn.specs.Encoding.{AllFit, encodings, slot_count};
 ghost use Rattle.insn.specs.declared.decoding.TheConstants.{MAX_SLOTS};
 ghost use Rattle.asm.specs.declared.refusal.AsmError.TheVariants.{Memory};
 
-use crate::line::Row;
+use crate::line::ProgramRow;
 use crate::program::{bytes_of, joined};
 use anyhow::{Context, Result, bail};
 use asm::{AsmError, assemble};
@@ -71,7 +71,7 @@ fn slots_text(alloc: Global, file: &[u8]) -> Result<String> {
 ///
 /// # Errors
 /// Where the text isn't in quotation marks, or memory runs out.
-pub fn assembled(alloc: Global, row: &Row<'_>) -> Result<String> {
+pub fn assembled(alloc: Global, row: &ProgramRow<'_>) -> Result<String> {
     let text = unquoted(alloc, row.given)?;
     match assemble(alloc, &text) {
         Ok(file) => slots_text(alloc, &file),
@@ -98,7 +98,7 @@ fn read_back(alloc: Global, code: &[Insn]) -> Result<Vec<u8>, AsmError>
 ///
 /// # Errors
 /// Where the text isn't in quotation marks or is refused, or memory runs out.
-pub fn reassembled(alloc: Global, row: &Row<'_>) -> Result<String> {
+pub fn reassembled(alloc: Global, row: &ProgramRow<'_>) -> Result<String> {
     let text = unquoted(alloc, row.given)?;
     let file = assemble(alloc, &text)?;
     let code = decode(alloc, &file)?;
@@ -135,7 +135,7 @@ fn with_slot(alloc: Global, text: &str) -> Result<String, AllocError> {
 ///
 /// # Errors
 /// Where the slots are refused, or memory runs out.
-pub fn decoded(alloc: Global, row: &Row<'_>) -> Result<String> {
+pub fn decoded(alloc: Global, row: &ProgramRow<'_>) -> Result<String> {
     let file = bytes_of(alloc, row.given)?;
     let code = decode(alloc, &file)?;
     let text = disassemble(alloc, &code)?;

@@ -1,6 +1,6 @@
 //! Rows of traces: `trace` and `compute`.
 
-use crate::line::Row;
+use crate::line::ProgramRow;
 use crate::program::file_of;
 use crate::reports::Printed;
 use anyhow::Result;
@@ -23,7 +23,7 @@ fn last_parts<'a>(line: &'a str, other: &str) -> &'a str {
 ///
 /// # Errors
 /// Where the program is refused by the assembler, or memory runs out.
-pub fn traced(alloc: Global, row: &Row<'_>) -> Result<String> {
+pub fn traced(alloc: Global, row: &ProgramRow<'_>) -> Result<String> {
     let (datagram, program) = row.parts();
     let file = file_of(alloc, program)?;
     let hex = if datagram == "empty" { "" } else { datagram };
@@ -44,7 +44,7 @@ pub fn traced(alloc: Global, row: &Row<'_>) -> Result<String> {
 ///
 /// # Errors
 /// Where the program is refused by the assembler, or memory runs out.
-pub fn computed(alloc: Global, row: &Row<'_>) -> Result<String> {
+pub fn computed(alloc: Global, row: &ProgramRow<'_>) -> Result<String> {
     let file = file_of(alloc, row.given)?;
     let line = Printed::of(alloc, Ask::Trace { hex: None }, &file)?.line(alloc)?;
     let found = line

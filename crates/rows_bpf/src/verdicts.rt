@@ -5,7 +5,7 @@ ghost use Rattle.insn.specs.Encoding.{slot_count};
 ghost use Rattle.insn.specs.declared.decoding.TheConstants.{MAX_SLOTS};
 
 use crate::known::KnownNumber;
-use crate::line::Row;
+use crate::line::ProgramRow;
 use crate::program::file_of;
 use crate::reports::Printed;
 use anyhow::Result;
@@ -54,7 +54,7 @@ pub fn verified(alloc: Global, file: &[u8]) -> Result<String> {
 ///
 /// # Errors
 /// Where the program is refused by the assembler, or memory runs out.
-pub fn fault(alloc: Global, row: &Row<'_>) -> Result<String> {
+pub fn fault(alloc: Global, row: &ProgramRow<'_>) -> Result<String> {
     let file = file_of(alloc, row.given)?;
     let refused = Printed::of(alloc, Ask::Verify, &file)?.line(alloc)?;
     let traced = Printed::of(alloc, Ask::Trace { hex: None }, &file)?.line(alloc)?;
@@ -117,7 +117,7 @@ pub fn over_both(alloc: Global, known: &str, intervals: &str) -> Result<String, 
 ///
 /// # Errors
 /// Where the program is refused by the assembler, or memory runs out.
-pub fn over_domains(alloc: Global, row: &Row<'_>) -> Result<String> {
+pub fn over_domains(alloc: Global, row: &ProgramRow<'_>) -> Result<String> {
     let file = file_of(alloc, row.given)?;
     let code = decode(alloc, &file)?;
     let known = line_of(alloc, verdict_over::<KnownNumber>(alloc, &code, BUDGET))?;
@@ -129,7 +129,7 @@ pub fn over_domains(alloc: Global, row: &Row<'_>) -> Result<String> {
 ///
 /// # Errors
 /// Where the budget is no number, the program is refused by the assembler, or memory runs out.
-pub fn with_budget(alloc: Global, row: &Row<'_>) -> Result<String> {
+pub fn with_budget(alloc: Global, row: &ProgramRow<'_>) -> Result<String> {
     let (budget, program) = row.parts();
     let file = file_of(alloc, program)?;
     let code = decode(alloc, &file)?;

@@ -9,8 +9,8 @@ mod wire;
 
 use anyhow::Result;
 use rows::check_input;
-use sections::RowsState;
+use sections::RelaySections;
 
 fn main(rt: HostRuntime) -> Result<()> {
-    check_input(&rt, RowsState::new())
+    check_input(&rt, RelaySections::new())
 }

@@ -10,22 +10,22 @@ use std::alloc::Global;
 
 /// What rows leave to those that follow.
 #[derive(Drop)]
-pub struct RowsState {
+pub struct RelaySections {
     relays: Option<Relays>,
     schedule: Option<Schedule>,
 }
 
-impl RowsState {
+impl RelaySections {
     /// Returns the state before the first row.
-    pub fn new() -> RowsState {
-        RowsState {
+    pub fn new() -> RelaySections {
+        RelaySections {
             relays: None,
             schedule: None,
         }
     }
 }
 
-impl Sections for RowsState {
+impl Sections for RelaySections {
     fn answer(&mut self, alloc: Global, section: &str, row: &Row<'_>) -> Result<String> {
         match section {
             "relay" => relays::answer(alloc, &mut self.relays, row),

@@ -15,8 +15,8 @@ mod values;
 
 use anyhow::Result;
 use rows::check_input;
-use sections::RowsState;
+use sections::TurnSections;
 
 fn main(rt: HostRuntime) -> Result<()> {
-    check_input(&rt, RowsState::new())
+    check_input(&rt, TurnSections::new())
 }

@@ -14,16 +14,16 @@ use tables::Tables;
 
 /// What rows leave to those that follow.
 #[derive(Drop)]
-pub struct RowsState {
+pub struct TurnSections {
     control: Option<Control>,
     order: Option<Order>,
     tables: Option<Tables>,
 }
 
-impl RowsState {
+impl TurnSections {
     /// Returns the state before the first row.
-    pub fn new() -> RowsState {
-        RowsState {
+    pub fn new() -> TurnSections {
+        TurnSections {
             control: None,
             order: None,
             tables: None,
@@ -31,7 +31,7 @@ impl RowsState {
     }
 }
 
-impl Sections for RowsState {
+impl Sections for TurnSections {
     fn answer(&mut self, alloc: Global, section: &str, row: &Row<'_>) -> Result<String> {
         match section {
             "registry" => registry::answer(alloc, row),
