@@ -53,7 +53,27 @@ struct ServedSession {
     served: Result<bool, ServeError>,
 }
 
-/// Serves all events, that of one index with another fate.
+/// Serves all events at a relay, that of one index with another fate.
+fn serve_at(
+    alloc: Global,
+    relay: &mut Relay,
+    session: &[EventLines<'_>],
+    index: usize,
+    fate: Fate,
+) -> Result<ServedSession> {
+    let mut sent = Vec::new(alloc);
+    let mut served = Ok(false);
+    for (i, &(event, _)) in session.iter().enumerate() {
+        if i != index {
+            serve(alloc, relay, event, (Fate::Served, None), &mut sent)?.ok();
+        } else if fate != Fate::Lost {
+            served = serve(alloc, relay, event, (fate, None), &mut sent)?;
+        }
+    }
+    Ok(ServedSession { sent, served })
+}
+
+/// Serves all events at a new relay, that of one index with another fate.
 fn serve_all(
     alloc: Global,
     session: &[EventLines<'_>],
@@ -61,16 +81,7 @@ fn serve_all(
     fate: Fate,
 ) -> Result<ServedSession> {
     let mut relay = shipped(alloc)?;
-    let mut sent = Vec::new(alloc);
-    let mut served = Ok(false);
-    for (i, &(event, _)) in session.iter().enumerate() {
-        if i != index {
-            serve(alloc, &mut relay, event, (Fate::Served, None), &mut sent)?.ok();
-        } else if fate != Fate::Lost {
-            served = serve(alloc, &mut relay, event, (fate, None), &mut sent)?;
-        }
-    }
-    Ok(ServedSession { sent, served })
+    serve_at(alloc, &mut relay, session, index, fate)
 }
 
 /// Returns the answers that are sent, but that of one event.
@@ -170,14 +181,14 @@ fn check_answer(alloc: Global, relay: &mut Relay, (event, answer): EventLines<'_
 
 /// Two relays with the same rows: one whose link fails at each event, and one whose link doesn't.
 #[derive(Drop)]
-pub struct Pair {
+struct Pair {
     failing: Relay,
     served: Relay,
 }
 
 impl Pair {
     /// Makes two relays with the shipped programs.
-    pub fn new(alloc: Global) -> Result<Pair> {
+    fn new(alloc: Global) -> Result<Pair> {
         Ok(Pair {
             failing: shipped(alloc)?,
             served: shipped(alloc)?,
@@ -212,7 +223,7 @@ impl Pair {
     }
 
     /// Checks each event of a session.
-    pub fn check_all(&mut self, alloc: Global, session: &[EventLines<'_>]) -> Result<()> {
+    fn check_all(&mut self, alloc: Global, session: &[EventLines<'_>]) -> Result<()> {
         for &event in session {
             self.check_event(alloc, event)?;
         }
@@ -228,13 +239,30 @@ impl Pair {
         check_rows(&self.failing, &self.served, event)
     }
 
-    /// Checks that the first events of a session are answered once more, and returns the end of the allocation of slot
+    /// Checks each event of a session, and that some are answered once more. Returns the end of the allocation of slot
     /// 0, which is counted from the greatest moment of the events that came.
-    pub fn end_again(&mut self, alloc: Global, session: &[EventLines<'_>]) -> Result<u64> {
-        for &event in session {
+    fn end_after(
+        &mut self,
+        alloc: Global,
+        session: &[EventLines<'_>],
+        repeated: &[EventLines<'_>],
+    ) -> Result<u64> {
+        self.check_all(alloc, session)?;
+        for &event in repeated {
             self.check_again(alloc, event)?;
         }
         let allocation = self.failing.tables().allocation_at(0, FIRST);
         Ok(allocation.context("no allocation")?.end)
     }
+}
+
+/// Checks each event of a session over links that fail and that don't, and that some of them are answered once more.
+/// Returns the end of the allocation of slot 0.
+pub fn end_of_pair(
+    alloc: Global,
+    session: &[EventLines<'_>],
+    repeated: &[EventLines<'_>],
+) -> Result<u64> {
+    let mut pair = Pair::new(alloc)?;
+    pair.end_after(alloc, session, repeated)
 }

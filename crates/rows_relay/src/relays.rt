@@ -1,6 +1,6 @@
 //! Events, and what a relay answers to them, and why.
 
-use crate::links::{Pair, check_failures};
+use crate::links::{check_failures, end_of_pair};
 use anyhow::{Context, Result, bail};
 use asm::assemble;
 use basics::streams::{Input, Output};
@@ -66,16 +66,24 @@ fn confinement(alloc: Global, row: &Row<'_>) -> Result<Option<Confinement>> {
     Ok(Some(Confinement { aliases }))
 }
 
+/// Returns the configuration of a row.
+fn config_of(alloc: Global, row: &Row<'_>) -> Result<Config> {
+    let ip6 = match row.get("ip6") {
+        Some(text) => Some(text.parse::<Ipv6Addr>()?.octets()),
+        None => None,
+    };
+    let mut config = sample::config(alloc, [203, 0, 113, 1], SLOTS)?;
+    config.ip6 = ip6;
+    Ok(config)
+}
+
 /// Makes the relay of a row.
 fn relay_of(alloc: Global, row: &Row<'_>) -> Result<Relay> {
-    let mut config: Config = sample::config(alloc, [203, 0, 113, 1], SLOTS)?;
-    if let Some(text) = row.get("ip6") {
-        config.ip6 = Some(text.parse::<Ipv6Addr>()?.octets());
-    }
+    let confinement = confinement(alloc, row)?;
     let client = program(alloc, row, "client", CLIENT)?;
     let peer = program(alloc, row, "peer", PEER)?;
-    let mut relay = Relay::new(alloc, config, client, peer)?;
-    relay.confine(confinement(alloc, row)?);
+    let mut relay = Relay::new(alloc, config_of(alloc, row)?, client, peer)?;
+    relay.confine(confinement);
     Ok(relay)
 }
 
@@ -101,6 +109,12 @@ fn replayed(alloc: Global, relay: &mut Relay, events: &str, explains: bool) -> R
         Err(ReplayError::Line(line)) => Ok(format!(in alloc; "refused line {line}")?),
         Err(error) => bail!("{error}"),
     }
+}
+
+/// Returns what a new relay of a row answers to events, a line each, or why it refuses one.
+fn replayed_anew(alloc: Global, row: &Row<'_>, events: &str) -> Result<String> {
+    let mut relay = relay_of(alloc, row)?;
+    replayed(alloc, &mut relay, events, false)
 }
 
 /// Returns what a relay says of the step of an event, a line.
@@ -184,8 +198,7 @@ impl Relays {
 
     /// Replays all events in one call, and returns how many they are, and that their answers are others, if they are.
     fn together(&self, alloc: Global, row: &Row<'_>) -> Result<String> {
-        let mut relay = relay_of(alloc, row)?;
-        let answers = replayed(alloc, &mut relay, &self.events, false)?;
+        let answers = replayed_anew(alloc, row, &self.events)?;
         let ending = if answers == self.answers {
             ""
         } else {
@@ -200,9 +213,8 @@ impl Relays {
         let exchanges = self.events.lines().zip(self.answers.lines());
         let session: Vec<(&str, &str)> = exchanges.collect(alloc)?;
         check_failures(alloc, &session)?;
-        let mut pair = Pair::new(alloc)?;
-        pair.check_all(alloc, &session)?;
-        let end = pair.end_again(alloc, session.get(..again).context("fewer events")?)?;
+        let repeated = session.get(..again).context("fewer events")?;
+        let end = end_of_pair(alloc, &session, repeated)?;
         let count = session.len();
         Ok(format!(in alloc; "{count} events, until {end}")?)
     }
