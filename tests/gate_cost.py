@@ -2,10 +2,10 @@
 
     tests/gate_cost.py [FOLDER]
 
-FOLDER is the top of the repository; a fresh clone, so that nothing else is built in it. The figures are read from the
-system while `rt ci` runs, five times a second; the last line has what the system counted in all. "base" is the proof of
-a crate that its edits begin with, and the same once more after them. After the table come the edits that took more
-than 20 seconds. A run that is interrupted prints what it has seen so far.
+FOLDER is the top of the repository; a fresh clone, so that nothing else is built in it. Nothing that was kept is taken
+(`--anew`). The figures are read from the system while `rt ci` runs, five times a second; the last line has what the system
+counted in all. "base" is the proof of a crate that its edits begin with, and the same once more after them. After the
+table come the edits that took more than 20 seconds. A run that is interrupted prints what it has seen so far.
 """
 
 import os
@@ -94,7 +94,7 @@ def show(name, figures):
 def watch(top):
     """Runs the gate until it ends or is interrupted. Returns its status and the processes that were seen."""
     seen, ended = {}, threading.Event()
-    with subprocess.Popen(["rt", "ci"], cwd=top) as gate:
+    with subprocess.Popen(["rt", "ci", "--anew"], cwd=top) as gate:
         threading.Thread(target=lambda: (gate.wait(), ended.set())).start()
         try:
             while not ended.wait(0.2):
