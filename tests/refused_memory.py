@@ -2,9 +2,9 @@
 
 A run whose allocations are refused has to end as one whose are not, or with `out of memory` on standard
 error, nothing on standard output, and the status 4. Allocations are counted from a constructor of the
-preloaded library on, so all those of `main` are counted. And `session_replay`, which makes a refused call once more: it has to
-print the right answers wherever memory is refused in the middle of a replay. And `memory_refusals`, which makes a call
-twice: the one that is refused memory has to name that as its own refusal, with the slot in V19, and the other one to
+preloaded library on, so all those of `main` are counted. And `repeated_calls replay`, which makes a refused call once more:
+it has to print the right answers wherever memory is refused in the middle of a replay. And its other commands, which make a
+call twice: the one that is refused memory has to name that as its own refusal, with the slot in V19, and the other one to
 give the right answer. And a server that replaces its users, which is refused memory once while it does: it tries again. As
 many command lines are tried at once as there are processors. It needs gcc.
 """
@@ -98,7 +98,7 @@ CASES = [
     (["load"], 2),
     (["--help"], 0),
 ]
-# what memory_refusals disassembles: jumps at slots 3, 5 and 7 lead to slots 5, 7 and 9
+# what repeated_calls disassembles: jumps at slots 3, 5 and 7 lead to slots 5, 7 and 9
 LISTING = """\
 mov r0, 0
 ldxdw r2, [r1+32]
@@ -114,7 +114,7 @@ exit
 # before the first step, where room for pending states is taken too, it is slot 0; then a state is kept at each slot that a jump
 # leads to
 SLOTS = [0, 5, 7, 9]
-# each call of memory_refusals with its answer, and its refusals of memory in the order in which they first come
+# each call of repeated_calls with its answer, and its refusals of memory in the order in which they first come
 CALLS = {
     "decode": ("10 instructions", ["E8"]),
     "load": ("10 instructions", ["E8", *[f"V19 at {slot}" for slot in SLOTS]]),
@@ -179,12 +179,12 @@ def failures_of(words, status, library):
     return failures, count
 
 
-def built(name, *words):
-    """Returns the program of a crate, which is built where it is not there, and is run on these words then."""
-    folder = TOP / "crates" / name
-    program = folder / "out" / name
+def built(command):
+    """Returns the program that repeats calls, which is built where it is not there, and makes the call of a command then."""
+    folder = TOP / "crates" / "repeated_calls"
+    program = folder / "out" / "repeated_calls"
     if not program.exists():
-        command = ["rt", "run", "--", *words]
+        command = ["rt", "run", "--", command]
         subprocess.run(command, cwd=folder, stdin=subprocess.DEVNULL, capture_output=True, check=True)
     return program
 
@@ -194,15 +194,15 @@ def failures_of_repeated(library):
 
     Where memory is refused before the first event or for the program's own line, it ends with the status 1.
     """
-    folder = TOP / "crates" / "session_replay"
+    folder = TOP / "crates" / "repeated_calls"
     answers = (folder / "stdout").read_text(encoding="utf-8")
-    ends = dict(refused_runs([], library, False, program=built("session_replay"), events=folder / "stdin"))
+    ends = dict(refused_runs(["replay"], library, False, program=built("replay"), events=folder / "stdin"))
     well = {first for first, end in ends.items() if end == (0, answers, "")}
-    failures = [f"session_replay, refused at {first}: {end[0]}, {end[2]!r}" for first, end in ends.items()
+    failures = [f"repeated_calls replay, refused at {first}: {end[0]}, {end[2]!r}" for first, end in ends.items()
                 if first not in well and not (end[0] == 1 and answers.startswith(end[1]))]
     repeated = len(well)
     if repeated < len(answers.splitlines()):
-        failures.append(f"session_replay: only {repeated} of {len(ends)} runs ended well")
+        failures.append(f"repeated_calls replay: only {repeated} of {len(ends)} runs ended well")
     return failures, len(ends)
 
 
@@ -220,17 +220,17 @@ def failures_of_call(command, ends):
         if (status, out) == (1, "") or (status, lines, err) == (0, [right, right], ""):
             continue
         if (status, err, len(lines), lines.count(right)) != (0, "", 2, 1):
-            yield f"memory_refusals {command}, refused at {number}: {status}, {out!r}, {err!r}"
+            yield f"repeated_calls {command}, refused at {number}: {status}, {out!r}, {err!r}"
             continue
         call = lines.index(right) ^ 1
         refused[call].append(lines[call].removeprefix(f"{command} "))
     if list(dict.fromkeys(refused[0])) != refusals or refused[1] != refused[0]:
-        yield f"memory_refusals {command}: {refused}"
+        yield f"repeated_calls {command}: {refused}"
 
 
 def failures_of_calls(library):
     """Returns what is wrong with the calls that are made twice, and how many runs there were."""
-    program = built("memory_refusals", "load")
+    program = built("load")
     failures, runs = [], 0
     for command in CALLS:
         ends = dict(refused_runs([command], library, False, program=program))

@@ -1,6 +1,4 @@
-//! Makes a call twice, and prints the size of each answer, or its refusal. A script refuses the allocations of either
-//! call.
-#![tactic(auto)]
+//! The commands that make one call twice.
 
 use anyhow::{Result, bail};
 use asm::assemble;
@@ -12,9 +10,7 @@ use machine::Frame;
 use relay::Relay;
 use setup::sample::config;
 use std::alloc::Global;
-use std::env;
 use std::fmt::Display;
-use std::rt::Env;
 
 /// A program of ten slots, with jumps at slots 3, 5 and 7 to slots 5, 7 and 9. Both branches of each are feasible.
 static PROGRAM: [u8; 80] = [
@@ -88,17 +84,10 @@ fn call<R: Print + AllocGlobal>(
     }
 }
 
-fn run<R: Env + Print + AllocGlobal>(rt: &R) -> Result<()> {
-    let words: Vec<String> = env::args(rt)?.collect(rt.alloc())?;
-    let [_, command] = words.as_slice() else {
-        bail!("usage: memory_refusals COMMAND");
-    };
+/// Makes the call of a command twice, and prints the line of each answer.
+pub(crate) fn call_twice<R: Print + AllocGlobal>(rt: &R, command: &str) -> Result<()> {
     let code = decode(rt.alloc(), &PROGRAM)?;
     let (first, second) = (parts(rt.alloc())?, parts(rt.alloc())?);
     call(rt, command, &code, first)?;
     call(rt, command, &code, second)
-}
-
-fn main(rt: HostRuntime) -> Result<()> {
-    run(&rt)
 }

@@ -1,7 +1,4 @@
-//! Replays the events on standard input with the shipped programs, a call for each line, and prints the line of each
-//! answer. A call that is refused memory is made once more over the same line. The answers have their room before the
-//! first event.
-#![tactic(auto)]
+//! The command `replay`: a session with the shipped programs, a call for each line.
 
 use anyhow::Result;
 use basics::streams::{self, Output};
@@ -53,14 +50,11 @@ fn replay_lines<R: BufRead, W: Write>(
     Ok(())
 }
 
-fn run<R: Input + Print + AllocGlobal>(rt: &R) -> Result<()> {
+/// Replays the events on standard input, and prints the line of each answer.
+pub(crate) fn replay<R: Input + Print + AllocGlobal>(rt: &R) -> Result<()> {
     let alloc = rt.alloc();
     let mut relay = shipped(alloc, config(alloc, [127, 0, 0, 1], 16)?)?;
     let mut reader = BufReader::new(alloc, rt.reader())?;
     let mut writer = io::writer(rt);
     replay_lines(alloc, &mut relay, &mut reader, &mut writer)
-}
-
-fn main(rt: HostRuntime) -> Result<()> {
-    run(&rt)
 }
