@@ -1,7 +1,10 @@
-//! Decimal numbers in texts, inputs and outputs that remember that they failed, and a ghost counter. How definitions
-//! write steps that may fail is in `specs/`, and has no code.
+//! Decimal numbers in texts, inputs and outputs that remember that they failed, reasons of the system, and a ghost
+//! counter. How definitions write steps that may fail is in `specs/`, and has no code.
 #![tactic(auto)]
 
 pub mod decimal;
 pub mod steps;
 pub mod streams;
+mod system_error;
+
+pub use system_error::SystemError;

@@ -1,12 +1,13 @@
 //! The record of a server's events. A replay of them gives the answers of the server.
 
+use basics::SystemError;
 use basics::streams::Output;
 use events::{Event, Meta, write_event};
 use libc::getrlimit;
 use libc::types::rlimit;
 use semantics::MAX_DATAGRAM;
 use std::fs::{File, OpenOptions};
-use std::io::{self, ErrorKind, Write};
+use std::io::{self, Write};
 use std::mem;
 use std::os::unix::fs::OpenOptionsExt;
 use std::rt::Files;
@@ -24,20 +25,13 @@ const MODE: u32 = 0o600;
 /// What getrlimit is asked: the most bytes that a file of the process may have. Who writes more is killed.
 const RLIMIT_FSIZE: i32 = 1;
 
-/// Why a recording can't begin. Displays as the reason.
-#[derive(Clone, Copy, Debug, Error)]
+/// Why a recording can't begin.
+#[derive(Clone, Copy, Debug)]
 pub enum RecordError {
-    #[error("the file exists")]
-    Exists,
-    #[error("no such folder")]
-    NoFolder,
-    #[error("permission denied")]
-    Denied,
-    #[error("out of memory")]
+    /// The system refuses its file.
+    System(SystemError),
+    /// Memory ran out.
     Memory,
-    /// Another error of the system, by its number.
-    #[error("error {0} of the system")]
-    Other(i32),
 }
 
 /// Why a recording ends. Displays as the reason.
@@ -89,12 +83,7 @@ pub struct Recording<'a> {
 
 impl From<io::Error> for RecordError {
     fn from(error: io::Error) -> RecordError {
-        match error.kind() {
-            ErrorKind::AlreadyExists => RecordError::Exists,
-            ErrorKind::NotFound => RecordError::NoFolder,
-            ErrorKind::PermissionDenied => RecordError::Denied,
-            _ => RecordError::Other(error.raw_os_error().unwrap_or(0)),
-        }
+        RecordError::System(SystemError::from(error))
     }
 }
 

@@ -1,7 +1,7 @@
 //! The peers that a server sends nothing to, by its options.
 
-use crate::error::CommandError;
 use command_line::{OptionError, Options, ServerOptions};
+use commands::CommandError;
 use peer_filter::{FilterError, MAX_RULES, Network, PeerFilter, Rule, RuleAction, ServerAddresses};
 use sockets::Addresses;
 use std::alloc::Global;

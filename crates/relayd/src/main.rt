@@ -2,45 +2,31 @@
 //! assembles a text, replays events, serves sockets or checks a server.
 #![tactic(auto)]
 
-mod check_command;
 mod chores;
 mod clock;
-mod comparing;
-mod confinements;
-mod covering;
-mod error;
-mod explanations;
 mod filters;
-mod options;
 mod options_file;
-mod replay_command;
-mod reports;
 mod serve_command;
 mod starting;
-mod trace_command;
-mod writing;
 
-use crate::check_command::check;
-use crate::error::{BAD_LINE, CommandError, end};
-use crate::explanations::{explain, graph};
 use crate::options_file::further_words;
-use crate::replay_command::replay;
-use crate::reports::{report_file, verify_file};
 pub use crate::serve_command::serve;
-use crate::trace_command::{Traced, trace};
-use crate::writing::{NewFiles, assemble_file, reorder_file};
 use clap::ArgMatches;
 use clap::error::ErrorKind as LineErrorKind;
 use command_line::{Subcommand, line, subcommand_of};
+use commands::{
+    BAD_LINE, CommandError, NewFiles, Traced, assemble_file, check, end, explain, graph,
+    reorder_file, replay, report_file, trace, verify_file,
+};
 use report::Ask;
 use std::alloc::{AllocError, Global};
+use std::env;
 use std::fs::File;
-use std::io::{self, Read, Write};
+use std::io::Write;
 use std::net::Net;
 use std::process::ExitCode;
 use std::random::RandomSource;
 use std::rt::{Clock, Env, Files};
-use std::{env, fs};
 
 /// Prints an error of the command line, or the help text that it requests, and returns the exit status.
 fn report_line<R: Print + Eprint, E: Write>(rt: &R, err: &mut E, error: &clap::Error) -> u8 {
@@ -51,36 +37,6 @@ fn report_line<R: Print + Eprint, E: Write>(rt: &R, err: &mut E, error: &clap::E
         return end(err, CommandError::Output);
     }
     if error.use_stderr() { BAD_LINE } else { 0 }
-}
-
-/// Reads a file whole, or standard input for the file `-`.
-/// See docs/DECISIONS.md, "A program file is read whole".
-fn read_whole<R: Files + Input + AllocGlobal>(rt: &R, path: &str) -> io::Result<Vec<u8>> {
-    if path != "-" {
-        return fs::read(rt, path);
-    }
-    let mut bytes = Vec::new(rt.alloc());
-    rt.reader().read_to_end(&mut bytes)?;
-    Ok(bytes)
-}
-
-/// Reads the file of a text, or standard input for the file `-`.
-fn read_text<R: Files + Input + AllocGlobal>(rt: &R, path: &str) -> io::Result<String> {
-    if path == "-" {
-        io::read_to_string(rt.alloc(), rt.reader())
-    } else {
-        fs::read_to_string(rt, path)
-    }
-}
-
-/// Prints what to do with an object file, where a file is one.
-fn note_object_file<E: Write>(err: &mut E, file: &[u8]) {
-    if file.starts_with(b"\x7fELF") {
-        let _ = writeln!(
-            err,
-            "an object file: take its .text by llvm-objcopy -O binary --only-section=.text"
-        );
-    }
 }
 
 /// Runs the subcommand of a parsed command line and returns the exit status.

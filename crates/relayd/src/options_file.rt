@@ -1,8 +1,7 @@
 //! The file of `--options`.
 
-use crate::error::CommandError;
-use crate::options::unread;
 use command_line::option_of_line;
+use commands::{CommandError, unread};
 use std::alloc::{AllocError, Global};
 use std::fs;
 use std::rt::Files;

@@ -2,12 +2,11 @@
 
 use crate::chores::Chore;
 use crate::clock::{elapsed, moment};
-use crate::error::{CommandError, end};
 use crate::filters::peer_options;
-use crate::options::Relayed;
 use crate::starting::{give_shadows, shadows_of, start};
 use arrayvec::ArrayVec;
 use command_line::{Options, ServerOptions};
+use commands::{CommandError, Relayed, end};
 use control::{Grant, Response};
 use mio::{Events, Poll, Token};
 use monitoring::{EndReason, ErrorLines, Observed, RecordEnd, Reports, Sender, Watch};

@@ -1,11 +1,10 @@
 //! How a server starts: its relay, its sockets, and what it reports.
 
 use crate::clock::{elapsed, starting_now};
-use crate::error::CommandError;
 use crate::filters::{PeerOptions, filter_of};
-use crate::options::{Prepared, Relayed, Texts, program_fault, set_up, unread};
 use crate::serve_command::{Server, Wire};
 use command_line::{Options, ServerOptions, defaults, relayed_ip, relayed_ip6};
+use commands::{CommandError, Prepared, Relayed, Texts, program_fault, set_up, unread};
 use loader::{Loaded, load};
 use monitoring::{MetricsFile, RecordError, Recording, Reports, ServerLog, Watch};
 use peer_filter::PeerFilter;
@@ -112,7 +111,7 @@ fn recording_of<'a, R: Files<File = File> + AllocGlobal>(
     match Recording::begin(rt, path, server_options.record_limit) {
         Ok(recording) => Ok(recording),
         Err(RecordError::Memory) => Err(CommandError::Memory),
-        Err(error) => Err(CommandError::Record(path.unwrap_or(""), error)),
+        Err(RecordError::System(error)) => Err(CommandError::Record(path.unwrap_or(""), error)),
     }
 }
 

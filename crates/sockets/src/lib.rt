@@ -5,5 +5,5 @@ mod clients;
 mod sockets;
 mod udp;
 
-pub use sockets::{Addresses, BindError, BindErrorKind, EndpointSockets, Sockets};
+pub use sockets::{Addresses, BindError, EndpointSockets, Sockets};
 pub use udp::SocketOptions;

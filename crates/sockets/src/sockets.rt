@@ -3,14 +3,14 @@
 use crate::clients::{ClientSockets, socket_address};
 use crate::udp::{SocketOptions, addr_of, bind, buffer_of, receive};
 use attributes::{Addr, Family};
+use basics::SystemError;
 use mio::net::UdpSocket;
 use mio::{Interest, Poll, Registry, Token};
 use server::{Ahead, Hairpin, Link, LinkFault, Place, Ports, Receipt, SocketId, socket_of};
 use std::alloc::{AllocError, Global};
-use std::io::{self, ErrorKind};
+use std::io;
 use std::net::{IpAddr, Ipv4Addr, Ipv6Addr, Net, SocketAddr};
 use tables::Tables;
-use thiserror::Error;
 
 /// The addresses that the sockets of a server are bound to.
 #[derive(Clone, Copy)]
@@ -86,27 +86,11 @@ impl Addresses {
     }
 }
 
-/// Why a socket can't be bound. Displays as the reason.
-#[derive(Clone, Copy, Debug, Error)]
-pub enum BindErrorKind {
-    #[error("address in use")]
-    InUse,
-    #[error("not an address of this machine")]
-    NotHere,
-    #[error("permission denied")]
-    Denied,
-    #[error("too many open files")]
-    Files,
-    /// Another error of the system, by its number.
-    #[error("error {0} of the system")]
-    Other(i32),
-}
-
 /// Why the sockets can't be bound.
 #[derive(Clone, Copy)]
 pub enum BindError {
     /// The first address that can't be bound, and why.
-    Address(SocketAddr, BindErrorKind),
+    Address(SocketAddr, SystemError),
     /// Memory ran out.
     Memory,
 }
@@ -142,23 +126,6 @@ pub struct Sockets {
 /// The token of the socket of the client of slot 0.
 const FIRST_CLIENT: usize = 1;
 
-/// The numbers of the system's errors for too many open files, of the process and of the machine.
-const EMFILE: i32 = 24;
-
-const ENFILE: i32 = 23;
-
-impl From<io::Error> for BindErrorKind {
-    fn from(error: io::Error) -> BindErrorKind {
-        match (error.kind(), error.raw_os_error()) {
-            (ErrorKind::AddrInUse, _) => BindErrorKind::InUse,
-            (ErrorKind::AddrNotAvailable, _) => BindErrorKind::NotHere,
-            (ErrorKind::PermissionDenied, _) => BindErrorKind::Denied,
-            (_, Some(EMFILE | ENFILE)) => BindErrorKind::Files,
-            (_, number) => BindErrorKind::Other(number.unwrap_or(0)),
-        }
-    }
-}
-
 /// Binds a socket to an address.
 fn bind_one<R: Net>(
     rt: &R,
@@ -167,7 +134,7 @@ fn bind_one<R: Net>(
 ) -> Result<UdpSocket, BindError> {
     match bind(rt, address, options) {
         Ok(socket) => Ok(socket),
-        Err(error) => Err(BindError::Address(address, BindErrorKind::from(error))),
+        Err(error) => Err(BindError::Address(address, SystemError::from(error))),
     }
 }
 
@@ -211,7 +178,7 @@ impl EndpointSockets {
         let port = match client.local_addr() {
             Ok(address) => address.port(),
             Err(error) => {
-                return Err(BindError::Address(addresses.client(), BindErrorKind::from(error)));
+                return Err(BindError::Address(addresses.client(), SystemError::from(error)));
             }
         };
         let (hairpin, hairpin6) = addresses.hairpins();

@@ -16,7 +16,7 @@ use std::{fs, io};
 
 /// Returns the fault of a failed read of a file.
 /// See docs/DECISIONS.md, "File names as given".
-pub(crate) fn unread<'a>(error: &io::Error, path: &'a str) -> CommandError<'a> {
+pub fn unread<'a>(error: &io::Error, path: &'a str) -> CommandError<'a> {
     if error.kind() == io::ErrorKind::OutOfMemory {
         CommandError::Memory
     } else {
@@ -100,14 +100,14 @@ fn revoked_of<'a, R: Files + AllocGlobal>(
 
 /// The bytes of the programs' files; `None` where no file is given, or it can't be read.
 #[derive(Drop)]
-pub(crate) struct ProgramBytes {
-    pub(crate) client: Option<Vec<u8>>,
-    pub(crate) peer: Option<Vec<u8>>,
+pub struct ProgramBytes {
+    pub client: Option<Vec<u8>>,
+    pub peer: Option<Vec<u8>>,
 }
 
 impl ProgramBytes {
     /// Returns the bytes of the program of a side, of a relay that was set up: the shipped one where no file is given.
-    pub(crate) fn of(&self, side: Side) -> &[u8] {
+    pub fn of(&self, side: Side) -> &[u8] {
         let (read, shipped) = match side {
             Side::Client => (&self.client, CLIENT),
             Side::Peer => (&self.peer, PEER),
@@ -121,19 +121,19 @@ impl ProgramBytes {
 
 /// The relayed addresses of a relay.
 #[derive(Clone, Copy)]
-pub(crate) struct Relayed {
+pub struct Relayed {
     /// That of IPv4.
-    pub(crate) ip: [u8; 4],
+    pub ip: [u8; 4],
     /// That of IPv6, if there is one.
-    pub(crate) ip6: Option<[u8; 16]>,
+    pub ip6: Option<[u8; 16]>,
 }
 
 /// The texts of files that are read again; `None` where no file is given.
 #[derive(Drop)]
-pub(crate) struct Texts {
-    pub(crate) users: Option<String>,
-    pub(crate) secrets: Option<String>,
-    pub(crate) revoked: Option<String>,
+pub struct Texts {
+    pub users: Option<String>,
+    pub secrets: Option<String>,
+    pub revoked: Option<String>,
 }
 
 /// Whose credentials are accepted, as the options and their files say.
@@ -172,10 +172,10 @@ fn credentials_of<'a, R: Files + AllocGlobal>(
 
 /// A relay that can begin, and what the files that it was set up from had.
 #[derive(Drop)]
-pub(crate) struct Prepared {
-    pub(crate) relay: Relay,
-    pub(crate) programs: ProgramBytes,
-    pub(crate) texts: Texts,
+pub struct Prepared {
+    pub relay: Relay,
+    pub programs: ProgramBytes,
+    pub texts: Texts,
 }
 
 /// Reads the file of a program. `None` is one that isn't given or can't be read.
@@ -207,7 +207,7 @@ fn program<'a>(
 }
 
 /// Returns the fault of a side's program, by the name of its file, or of the shipped one.
-pub(crate) fn program_fault(error: ProgramError, path: &str) -> CommandError<'_> {
+pub fn program_fault(error: ProgramError, path: &str) -> CommandError<'_> {
     match error {
         ProgramError::File => CommandError::File(path),
         ProgramError::Memory => CommandError::Memory,
@@ -228,7 +228,7 @@ fn setup_fault<'a>(error: SetupError, options: &Options<'a>) -> CommandError<'a>
 /// Sets up the relay that the options describe, with a nonce and relayed addresses, and confines its programs where
 /// `confined` says so. The programs' files are both read first.
 /// See docs/DECISIONS.md, "The first fault of a replay".
-pub(crate) fn set_up<'a, R: Files + AllocGlobal>(
+pub fn set_up<'a, R: Files + AllocGlobal>(
     rt: &R,
     options: &Options<'a>,
     nonce: &'a str,

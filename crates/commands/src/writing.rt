@@ -2,8 +2,8 @@
 
 use crate::error::{CommandError, REFUSED, status_of};
 use crate::options::unread;
+use crate::reading::{note_object_file, read_text, read_whole};
 use crate::reports::{map_of, read_lines};
-use crate::{note_object_file, read_text, read_whole};
 use asm::{AsmError, assemble_with_lines};
 use insn::{DecodeError, decode};
 use ordering::{FileError, FileInOrder, OrderError, Places, order_file, way_round};
@@ -16,11 +16,11 @@ use std::rt::Files;
 
 /// The files of a program that is written.
 #[derive(Clone, Copy)]
-pub(crate) struct NewFiles<'a> {
-    pub(crate) input: &'a str,
-    pub(crate) output: &'a str,
+pub struct NewFiles<'a> {
+    pub input: &'a str,
+    pub output: &'a str,
     /// The file that the source map is written to, if it is.
-    pub(crate) lines: Option<&'a str>,
+    pub lines: Option<&'a str>,
 }
 
 /// Writes a program to its file, its source map to another, if one is named, and prints the length of the program.
@@ -72,7 +72,7 @@ fn write_assembled<'a, R: Files + Input + Print + AllocGlobal>(
 
 /// Assembles the text in a file, writes the program and its source map, and returns the exit status. A text that is
 /// refused writes nothing.
-pub(crate) fn assemble_file<R: Files + Input + Print + AllocGlobal, E: Write>(
+pub fn assemble_file<R: Files + Input + Print + AllocGlobal, E: Write>(
     rt: &R,
     err: &mut E,
     files: NewFiles<'_>,
@@ -220,7 +220,7 @@ fn put_in_order<'a, R: Files + Input + Print + AllocGlobal, E: Write>(
 
 /// Puts the program in a file in an order in which every jump leads forward, writes it and its source map, which is
 /// made of the one in the file `from`, and returns the exit status. A program that is refused writes nothing.
-pub(crate) fn reorder_file<R: Files + Input + Print + AllocGlobal, E: Write>(
+pub fn reorder_file<R: Files + Input + Print + AllocGlobal, E: Write>(
     rt: &R,
     err: &mut E,
     files: NewFiles<'_>,

@@ -6,7 +6,7 @@ ghost use Rattle.tables.specs.Channels.{IsChannelNumber};
 
 use crate::error::{CommandError, status_of};
 use crate::options::unread;
-use crate::read_whole;
+use crate::reading::read_whole;
 use crate::reports::{map_of, print_annotated, read_lines, report_file};
 use attributes::Family;
 use basics::streams::Output;
@@ -29,10 +29,10 @@ const LIFETIME: u32 = 600;
 
 /// The files of a trace, and its datagram.
 #[derive(Clone, Copy)]
-pub(crate) struct Traced<'a> {
-    pub(crate) file: &'a str,
-    pub(crate) data: Option<&'a str>,
-    pub(crate) lines: Option<&'a str>,
+pub struct Traced<'a> {
+    pub file: &'a str,
+    pub data: Option<&'a str>,
+    pub lines: Option<&'a str>,
 }
 
 /// Returns an address with its port.
@@ -265,7 +265,7 @@ fn trace_given<'a, R: Files + Input + Print + AllocGlobal>(
 }
 
 /// Runs the program in a file over a datagram, prints each step, and returns the exit status.
-pub(crate) fn trace<R: Files + Input + Print + AllocGlobal, E: Write>(
+pub fn trace<R: Files + Input + Print + AllocGlobal, E: Write>(
     rt: &R,
     err: &mut E,
     traced: Traced<'_>,

@@ -2,8 +2,8 @@
 
 use crate::error::{CommandError, REFUSED, status_of};
 use crate::options::unread;
+use crate::reading::{note_object_file, read_whole};
 use crate::reports::{map_of, print_annotated, read_lines};
-use crate::{note_object_file, read_whole};
 use explaining::{ExplainError, Explained, explain_file, graph_file};
 use loader::LoadError;
 use report::{SourceMap, annotated};
@@ -173,7 +173,7 @@ fn print_graph<'a, R: Files + Input + Print + AllocGlobal, E: Write>(
 }
 
 /// Explains the program in a file, prints the line of a fault to `err`, and returns the exit status.
-pub(crate) fn explain<R: Files + Input + Print + AllocGlobal, E: Write>(
+pub fn explain<R: Files + Input + Print + AllocGlobal, E: Write>(
     rt: &R,
     err: &mut E,
     path: &str,
@@ -186,7 +186,7 @@ pub(crate) fn explain<R: Files + Input + Print + AllocGlobal, E: Write>(
 
 /// Draws the program in a file, with the lines of its source map, if one is named, prints the line of a fault to `err`,
 /// and returns the exit status.
-pub(crate) fn graph<R: Files + Input + Print + AllocGlobal, E: Write>(
+pub fn graph<R: Files + Input + Print + AllocGlobal, E: Write>(
     rt: &R,
     err: &mut E,
     path: &str,

@@ -36,7 +36,7 @@ fn address_of<R: Net>(rt: &R, server: &str) -> Option<SocketAddr> {
 
 /// Checks the server at an address, or at a name, and a port, with an allocation where a user is given. Prints what
 /// works, and returns the exit status.
-pub(crate) fn check<R: Net + Clock + Print + RandomSource + AllocGlobal, E: Write>(
+pub fn check<R: Net + Clock + Print + RandomSource + AllocGlobal, E: Write>(
     rt: &R,
     err: &mut E,
     server: &str,

@@ -208,7 +208,7 @@ fn replay_events<'a, R: Files + Input + Print + AllocGlobal, E: Write>(
 }
 
 /// Replays events, prints the answers, or the line of the first fault to `err`, and returns the exit status.
-pub(crate) fn replay<R: Files + Input + Print + AllocGlobal, E: Write>(
+pub fn replay<R: Files + Input + Print + AllocGlobal, E: Write>(
     rt: &R,
     err: &mut E,
     replay: &ReplayOptions<'_>,

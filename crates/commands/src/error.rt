@@ -1,13 +1,12 @@
 //! Why a command ends early: the line and the exit status of each error.
 
 use asm::AsmError;
+use basics::SystemError;
 use command_line::{OptionError, OptionFault, RelayedError};
-use monitoring::RecordError;
 use peer_filter::{FilterError, NetworkError};
 use report::{MapError, ReportError};
 use server_check::CheckError;
 use setup::{LineFault, RefusedProgram, RevokedError, SetupError};
-use sockets::BindErrorKind;
 use std::io::Write;
 use std::net::SocketAddr;
 use tables::TableError;
@@ -17,7 +16,7 @@ use thiserror::Error;
 pub(crate) const REFUSED: u8 = 1;
 
 /// The exit status of a bad command line.
-pub(crate) const BAD_LINE: u8 = 2;
+pub const BAD_LINE: u8 = 2;
 
 /// The exit status where a file, a socket, an output or a device fails.
 const FAILED: u8 = 3;
@@ -27,7 +26,7 @@ const MEMORY: u8 = 4;
 
 /// Why a command ends early. Displays as the line for standard error.
 #[derive(Clone, Copy, Debug, Error)]
-pub(crate) enum CommandError<'a> {
+pub enum CommandError<'a> {
     /// The text of an option is no value of it.
     #[error("{0}")]
     Value(OptionError<'a>),
@@ -100,10 +99,10 @@ pub(crate) enum CommandError<'a> {
     Server(&'a str),
     /// A socket can't be bound to this address.
     #[error("cannot bind {0}\n{1}")]
-    Bind(SocketAddr, BindErrorKind),
+    Bind(SocketAddr, SystemError),
     /// The file of a record can't be made.
     #[error("cannot record to {0}\n{1}")]
-    Record(&'a str, RecordError),
+    Record(&'a str, SystemError),
     /// The system doesn't say which sockets are ready.
     #[error("cannot wait for sockets")]
     Wait,
@@ -168,7 +167,7 @@ impl CommandError<'_> {
 }
 
 /// Prints the line of an error to `err`, and returns the exit status.
-pub(crate) fn end<E: Write>(err: &mut E, error: CommandError<'_>) -> u8 {
+pub fn end<E: Write>(err: &mut E, error: CommandError<'_>) -> u8 {
     let _ = writeln!(err, "{error}");
     error.status()
 }

@@ -2,7 +2,7 @@
 
 use crate::error::{CommandError, REFUSED, status_of};
 use crate::options::unread;
-use crate::read_whole;
+use crate::reading::read_whole;
 use basics::streams::Output;
 use report::{Ask, MapError, SourceMap, annotated, report};
 use std::alloc::Global;
@@ -100,7 +100,7 @@ pub(crate) fn read_lines<'a, R: Files + AllocGlobal>(
 
 /// Prints the report on the program in a file, with the lines of its source map, if one is named, and returns the exit
 /// status.
-pub(crate) fn report_file<R: Files + Input + Print + AllocGlobal, E: Write>(
+pub fn report_file<R: Files + Input + Print + AllocGlobal, E: Write>(
     rt: &R,
     err: &mut E,
     path: &str,
@@ -113,7 +113,7 @@ pub(crate) fn report_file<R: Files + Input + Print + AllocGlobal, E: Write>(
 
 /// Prints the report on whether the program in a file may be loaded and, where it is refused, which command explains
 /// why.
-pub(crate) fn verify_file<R: Files + Input + Print + AllocGlobal, E: Write>(
+pub fn verify_file<R: Files + Input + Print + AllocGlobal, E: Write>(
     rt: &R,
     err: &mut E,
     path: &str,

@@ -1,5 +1,5 @@
 use Rattle.std.proofs.Common.{◌≡◌, false}
-use Rattle.relayd.proofs.covering.trace_event.Given as goal
+use Rattle.commands.proofs.covering.trace_event.Given as goal
 
 abbrev pub invariant-loop-count : goal.invariant-loop-count
 invariant-loop-count g l = record { reads : l.input.failed ≡ false; writes : l.output.failed ≡ false }
