@@ -31,14 +31,19 @@ SLOTS = 256
 USER = "u", "p"
 SECRET = "between-the-web-and-the-relay"
 # Half of turnutils_uclient's allocations ask for an even port and three quarters of its channels are above 0x4FFF, by
-# chance; both are refused. So a client that isn't refused is waited for, this often.
-TRIES = 400
+# chance; both are refused. So a client that isn't refused, one of a hundred, is waited for, this often at each of so many
+# servers: the allocations of those that are refused last.
+TRIES, SERVERS = 150, 15
 PASSED_OVER = "not installed"
 # what the page of examples/web shows with the relay's secret, and how it begins with another one
 RELAYED = re.compile(
     r"From a relay candidate to another a message took \d+\.\d ms there and back\. "
     r"From a relay candidate to an address of this machine a message took \d+\.\d ms there and back\.")
 NOT_RELAYED = "No relay candidate came: the server refuses the credentials, "
+
+
+class RefusedByChance(Exception):
+    """Each try of a client was refused, by what it asks for by chance."""
 
 
 def ran(words, seconds=60):
@@ -107,6 +112,8 @@ def uclient(*mode):
                 status, printed = ran([*words, "127.0.0.1"])
                 if "error 420" not in printed and "channel bind: error 400" not in printed:
                     break
+            else:
+                raise RefusedByChance
         lost = re.search(r"Total lost packets (\d+)", printed)
         return [] if status == 0 and lost and lost[1] == "0" else [printed]
 
@@ -299,6 +306,9 @@ def tried(name, client, folder):
         try:
             found = client(server)
             found = found if found == PASSED_OVER else list(found)
+        except RefusedByChance:
+            capture.failures()
+            raise
         except (OSError, EOFError, ValueError, subprocess.SubprocessError) as error:
             found = [repr(error)]
         captured = capture.failures()
@@ -308,13 +318,21 @@ def tried(name, client, folder):
         return [(name, found), ("a capture by tshark", captured), ("a replay of the record", record.failures(server))]
 
 
+def tried_by_chance(name, client, folder):
+    """As `tried`, at another server where each try was refused by chance."""
+    for _ in range(SERVERS):
+        with contextlib.suppress(RefusedByChance):
+            return tried(name, client, folder)
+    return [(name, ["refused by chance, as often as it was tried"])]
+
+
 def main():
     """Runs every client that is there, and returns the exit status. With `--require` each has to be there."""
     build()
     failures, absent = [], []
     with tempfile.TemporaryDirectory() as folder:
         for name, client in CLIENTS:
-            for part, found in tried(name, client, folder):
+            for part, found in tried_by_chance(name, client, folder):
                 if found == PASSED_OVER:
                     absent.append(part)
                 else:
