@@ -148,6 +148,24 @@ pub struct TraceOptions<'a> {
     pub channels: Option<&'a [&'a str]>,
 }
 
+/// The files of a program that is traced and of its source map, and the datagram in hexadecimal digits; without one it
+/// is empty.
+#[derive(Clone, Copy, Debug)]
+pub struct Traced<'a> {
+    pub file: &'a str,
+    pub data: Option<&'a str>,
+    pub lines: Option<&'a str>,
+}
+
+/// The files of a program that is written.
+#[derive(Clone, Copy, Debug)]
+pub struct NewFiles<'a> {
+    pub input: &'a str,
+    pub output: &'a str,
+    /// The file that the source map is written to, if it is.
+    pub lines: Option<&'a str>,
+}
+
 /// A subcommand of relayd, with the values of its arguments. `lines` is the file of a source map: one that is read,
 /// whose lines are printed beside the slots of the program, or one that is written.
 #[derive(Clone, Copy, Debug)]
@@ -169,26 +187,19 @@ pub enum Subcommand<'a> {
         file: &'a str,
         lines: Option<&'a str>,
     },
-    /// Run the program in a file over a datagram and print each step. `data` is the datagram in
-    /// hexadecimal digits, and `None` stands for the empty one. `given` is what else the program gets.
+    /// Run the program in a file over a datagram and print each step. `given` is what else the program gets.
     Trace {
-        file: &'a str,
-        data: Option<&'a str>,
-        lines: Option<&'a str>,
+        traced: Traced<'a>,
         given: TraceOptions<'a>,
     },
     /// Assemble the text in a file, and write the program to another.
     Assemble {
-        input: &'a str,
-        output: &'a str,
-        lines: Option<&'a str>,
+        files: NewFiles<'a>,
     },
     /// Put the program in a file in an order in which every jump leads forward, and write the program to another.
     /// `from` is the source map of the program in the first file, and `None` stands for its slots.
     Order {
-        input: &'a str,
-        output: &'a str,
-        lines: Option<&'a str>,
+        files: NewFiles<'a>,
         from: Option<&'a str>,
     },
     /// Print the program in a file as text, with the slot of each instruction where `slots` says so.

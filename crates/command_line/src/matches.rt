@@ -4,7 +4,7 @@ use crate::defaults::{
     BUFFER, FIRST_PORT, LISTEN, NONCE, NONCE_LIFETIME, REALM, RECORD_LIMIT, SLOTS,
 };
 use crate::values::{OptionError, buffer, ip, ip6, number, octets6, port, seconds, slots};
-use crate::{Options, ReplayOptions, ServerOptions, Subcommand, TraceOptions};
+use crate::{NewFiles, Options, ReplayOptions, ServerOptions, Subcommand, TraceOptions, Traced};
 use clap::ArgMatches;
 use std::net::{Ipv4Addr, Ipv6Addr};
 
@@ -31,30 +31,26 @@ fn is_given(matches: &ArgMatches<'_>, id: &str) -> bool {
     matches.get_flag(id)
 }
 
+/// Returns the files of a program that is written, or `None` where one is missing.
+fn new_files<'a>(matches: &'a ArgMatches<'_>) -> Option<NewFiles<'a>> {
+    Some(NewFiles {
+        input: text(matches, "in")?,
+        output: text(matches, "out")?,
+        lines: text(matches, "lines"),
+    })
+}
+
 /// Returns the subcommand `assemble` of its matches, or `None` where a file is missing.
 fn assemble_of<'a>(matches: &'a ArgMatches<'_>) -> Option<Subcommand<'a>> {
-    let input = text(matches, "in")?;
-    let output = text(matches, "out")?;
-    let lines = text(matches, "lines");
-    Some(Subcommand::Assemble {
-        input,
-        output,
-        lines,
-    })
+    let files = new_files(matches)?;
+    Some(Subcommand::Assemble { files })
 }
 
 /// Returns the subcommand `order` of its matches, or `None` where a file is missing.
 fn order_of<'a>(matches: &'a ArgMatches<'_>) -> Option<Subcommand<'a>> {
-    let input = text(matches, "in")?;
-    let output = text(matches, "out")?;
-    let lines = text(matches, "lines");
+    let files = new_files(matches)?;
     let from = text(matches, "from");
-    Some(Subcommand::Order {
-        input,
-        output,
-        lines,
-        from,
-    })
+    Some(Subcommand::Order { files, from })
 }
 
 /// Returns the subcommand `disassemble` of its matches, or `None` where the file is missing.
@@ -81,11 +77,13 @@ fn graph_of<'a>(matches: &'a ArgMatches<'_>) -> Option<Subcommand<'a>> {
 
 /// Returns the subcommand `trace` of its matches, or `None` where the file is missing.
 fn trace_of<'a>(matches: &'a ArgMatches<'_>) -> Option<Subcommand<'a>> {
-    let file = text(matches, "file")?;
-    Some(Subcommand::Trace {
-        file,
+    let traced = Traced {
+        file: text(matches, "file")?,
         data: text(matches, "data"),
         lines: text(matches, "lines"),
+    };
+    Some(Subcommand::Trace {
+        traced,
         given: TraceOptions {
             side: text(matches, "side"),
             source: text(matches, "source"),

@@ -22,5 +22,5 @@ pub use explanations::{explain, graph};
 pub use options::{Prepared, ProgramBytes, Relayed, Texts, program_fault, set_up, unread};
 pub use replay_command::replay;
 pub use reports::{report_file, verify_file};
-pub use trace_command::{Traced, trace};
-pub use writing::{NewFiles, assemble_file, reorder_file};
+pub use trace_command::trace;
+pub use writing::{assemble_file, reorder_file};

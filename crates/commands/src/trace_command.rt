@@ -10,7 +10,7 @@ use crate::reading::read_whole;
 use crate::reports::{map_of, print_annotated, read_lines, report_file};
 use attributes::Family;
 use basics::streams::Output;
-use command_line::{OptionError, TraceOptions};
+use command_line::{OptionError, TraceOptions, Traced};
 use helpers::Lookup;
 use insn::{DecodeError, decode};
 use machine::{Addr, Context, Frame, Side};
@@ -26,14 +26,6 @@ const CHANNEL: &str = "--channel <N=A:P>";
 
 /// The lifetime of the allocation, in seconds: the run is at the moment 0.
 const LIFETIME: u32 = 600;
-
-/// The files of a trace, and its datagram.
-#[derive(Clone, Copy)]
-pub struct Traced<'a> {
-    pub file: &'a str,
-    pub data: Option<&'a str>,
-    pub lines: Option<&'a str>,
-}
 
 /// Returns an address with its port.
 fn record_address(address: SocketAddr) -> Addr {

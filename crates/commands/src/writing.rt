@@ -5,6 +5,7 @@ use crate::options::unread;
 use crate::reading::{note_object_file, read_text, read_whole};
 use crate::reports::{map_of, read_lines};
 use asm::{AsmError, assemble_with_lines};
+use command_line::NewFiles;
 use insn::{DecodeError, decode};
 use ordering::{FileError, FileInOrder, OrderError, Places, order_file, way_round};
 use report::{SourceLine, SourceMap, annotated, map_of_slots, map_of_text};
@@ -13,15 +14,6 @@ use std::alloc::{AllocError, Global};
 use std::fs;
 use std::io::Write;
 use std::rt::Files;
-
-/// The files of a program that is written.
-#[derive(Clone, Copy)]
-pub struct NewFiles<'a> {
-    pub input: &'a str,
-    pub output: &'a str,
-    /// The file that the source map is written to, if it is.
-    pub lines: Option<&'a str>,
-}
 
 /// Writes a program to its file, its source map to another, if one is named, and prints the length of the program.
 /// Returns the exit status.

@@ -15,8 +15,8 @@ use clap::ArgMatches;
 use clap::error::ErrorKind as LineErrorKind;
 use command_line::{Subcommand, line, subcommand_of};
 use commands::{
-    BAD_LINE, CommandError, NewFiles, Traced, assemble_file, check, end, explain, graph,
-    reorder_file, replay, report_file, trace, verify_file,
+    BAD_LINE, CommandError, assemble_file, check, end, explain, graph, reorder_file, replay,
+    report_file, trace, verify_file,
 };
 use report::Ask;
 use std::alloc::{AllocError, Global};
@@ -53,44 +53,13 @@ fn run_subcommand<
         Subcommand::Verify { file, lines } => verify_file(rt, err, file, lines),
         Subcommand::Explain { file, slot, lines } => explain(rt, err, file, slot, lines),
         Subcommand::Graph { file, lines } => graph(rt, err, file, lines),
-        Subcommand::Trace {
-            file,
-            data,
-            lines,
-            given,
-        } => {
-            let traced = Traced { file, data, lines };
-            trace(rt, err, traced, &given)
-        }
+        Subcommand::Trace { traced, given } => trace(rt, err, traced, &given),
         Subcommand::Disassemble { file, slots, lines } => {
             let slots = slots || lines.is_some();
             report_file(rt, err, file, Ask::Disassemble { slots }, lines)
         }
-        Subcommand::Assemble {
-            input,
-            output,
-            lines,
-        } => {
-            let files = NewFiles {
-                input,
-                output,
-                lines,
-            };
-            assemble_file(rt, err, files)
-        }
-        Subcommand::Order {
-            input,
-            output,
-            lines,
-            from,
-        } => {
-            let files = NewFiles {
-                input,
-                output,
-                lines,
-            };
-            reorder_file(rt, err, files, from)
-        }
+        Subcommand::Assemble { files } => assemble_file(rt, err, files),
+        Subcommand::Order { files, from } => reorder_file(rt, err, files, from),
         Subcommand::Replay {
             replay: asked,
             options,
