@@ -395,7 +395,7 @@ impl<'a> Server<'a> {
     }
 
     /// Takes one turn at an endpoint, at a moment. Returns whether a datagram has come, or a fault. A transaction id is
-    /// drawn where the one before may have been used.
+    /// drawn where the one before may have been used, by an indication about what a peer sent.
     #[inline(always)]
     fn turn(&mut self, endpoint: Place, now: u64) -> bool {
         let wire = &mut self.wire;
@@ -421,8 +421,10 @@ impl<'a> Server<'a> {
             }
             Err(LinkFault) => {}
         }
-        let wire = &mut self.wire;
-        wire.rng.fill_bytes(&mut wire.tx);
+        if let Place::Slot(_) = endpoint {
+            let wire = &mut self.wire;
+            wire.rng.fill_bytes(&mut wire.tx);
+        }
         true
     }
 
