@@ -24,10 +24,10 @@ import time
 
 from lib.program import PASSED_OVER, PROGRAM, TOP, assembled, explained, preloadable, run_parts, shipped
 from lib.rules import (
-    ALLOCATE, BINDING, CREATE_PERMISSION, DATA, DATA_INDICATION, FAMILY, LIFETIME, NONCE, REALM, REFRESH, SEND, XOR_MAPPED_ADDRESS,
-    XOR_PEER_ADDRESS, XOR_RELAYED_ADDRESS, address_in, address_value, key_of, message, read)
+    ALLOCATE, BINDING, CHANNEL_BIND, CHANNEL_NUMBER, CREATE_PERMISSION, DATA, DATA_INDICATION, FAMILY, LIFETIME, NONCE, REALM, REFRESH,
+    SEND, XOR_MAPPED_ADDRESS, XOR_PEER_ADDRESS, XOR_RELAYED_ADDRESS, address_in, address_value, key_of, message, read)
 from lib.server import (
-    BAD, DISCARD, LOOPBACK, LOOPBACK6, PERIOD, UDP, USER, Client, Server, address_of, channel_data, code_of, comes, counters,
+    BAD, CHANNEL, DISCARD, LOOPBACK, LOOPBACK6, PERIOD, UDP, USER, Client, Server, address_of, channel_data, code_of, comes, counters,
     fault_line, free_ports, full_pipe, passed, put, round_trip, run, samples_of, started, udp_socket, wanted, without_buffers)
 from worst_programs import known_programs, longest_programs
 
@@ -493,8 +493,8 @@ def own_sockets():
     with Server("--buffer", "262144") as server, Client(server) as client, udp_socket() as peer, udp_socket() as stranger:
         before = sockets_of(server)
         client.allocate()
-        yield from wanted("a channel", code_of(client.bind(address_of(peer))), 0)
         yield from wanted("sockets with an allocation", sockets_become(server, before + 1), before + 1)
+        yield from wanted("a channel", code_of(client.bind(address_of(peer))), 0)
         with server.stopped():
             for _ in range(STRANGE):
                 stranger.sendto(bytes(100), client.server)
@@ -522,6 +522,52 @@ def own_sockets():
             yield from wanted("another client's request", code_of(other.ask(BINDING, [])), 0)
         yield from wanted("sockets afterwards", sockets_become(server, before), before)
         yield from wanted("a request afterwards", code_of(client.ask(BINDING, [])), 0)
+        yield from wanted("faults", server.printed(), "")
+
+
+def own_sockets_of_peers():
+    """Yields what is lost of a peer that a channel is bound to, or isn't put right, where strangers fill the buffer of the socket of
+    its relayed address, and where the peer's machine refuses what is sent to it."""
+    with Server("--buffer", "262144") as server, Client(server) as client, udp_socket() as peer, udp_socket() as other, \
+            udp_socket(address="127.0.0.2") as stranger:
+        relayed = ("127.0.0.1", server.first_port)
+        before = sockets_of(server)
+        client.allocate()
+        given = [(CHANNEL_NUMBER, struct.pack(">HH", CHANNEL + 1, 0))]
+        yield from wanted("a channel", code_of(client.bind(address_of(peer))), 0)
+        yield from wanted("sockets with a channel", sockets_become(server, before + 2), before + 2)
+        yield from wanted("a second channel", code_of(client.signed(CHANNEL_BIND, given, address_of(other))), 0)
+        with server.stopped():
+            for _ in range(STRANGE):
+                stranger.sendto(bytes(100), relayed)
+            for number in range(SENT_AMID):
+                peer.sendto(b"%d" % number, relayed)
+        found = [client.receive() for _ in range(SENT_AMID)]
+        yield from wanted("what a peer sends beside a full buffer", found, [channel_data(b"%d" % number) for number in range(SENT_AMID)])
+        # what strangers sent waits at the socket that the other peer's data come to
+        server.becomes("S")
+        to_other = struct.pack(">HH", CHANNEL + 1, 5) + b"other"
+        client.send(to_other)
+        yield from wanted("to the other peer", other.recvfrom(100), (b"other", relayed))
+        other.sendto(b"other", relayed)
+        yield from wanted("from the other peer", client.receive(), to_other)
+        yield from wanted("sockets with two channels", sockets_of(server), before + 2)
+        # nobody is at the peer's port for some time
+        port = peer.getsockname()[1]
+        peer.close()
+        for _ in range(SENT_AMID):
+            client.send(channel_data(b"nobody is there"))
+        server.becomes("S")
+        with udp_socket(port) as peer:
+            client.send(channel_data(b"at once"))
+            yield from wanted("after refused datagrams", peer.recvfrom(100), (b"at once", relayed))
+            peer.sendto(b"and back", relayed)
+            yield from wanted("and back", client.receive(), channel_data(b"and back"))
+        yield from wanted("a Refresh to 0", code_of(client.signed(REFRESH, [(LIFETIME, bytes(4))])), 0)
+        time.sleep(1.2 * PERIOD)
+        with Client(server) as late:
+            yield from wanted("another client's request", code_of(late.ask(BINDING, [])), 0)
+        yield from wanted("sockets afterwards", sockets_become(server, before), before)
         yield from wanted("faults", server.printed(), "")
 
 
@@ -1003,8 +1049,8 @@ def many():
 def main():
     """Runs every part, and returns the exit status."""
     parts = [refused_lines, rounds, metrics_of_rounds, addresses, addresses6, default_ports, default_slots, counted_rounds, receives_of_rounds,
-             session, session6, hairpins, own_sockets, no_family6, transactions, many_slots, faults, failed_receives, idle, idle_files, nonces,
-             replaced_programs, slow_programs, withdrawn_programs, drained, users_that_come_and_go, turns, ahead, many]
+             session, session6, hairpins, own_sockets, own_sockets_of_peers, no_family6, transactions, many_slots, faults, failed_receives,
+             idle, idle_files, nonces, replaced_programs, slow_programs, withdrawn_programs, drained, users_that_come_and_go, turns, ahead, many]
     return run_parts("serve", parts)
 
 

@@ -9,6 +9,7 @@ mod metrics;
 mod names;
 mod recording;
 mod reports;
+mod requests;
 mod server_log;
 mod watching;
 
@@ -16,5 +17,6 @@ pub use error_lines::ErrorLines;
 pub use metrics::MetricsFile;
 pub use recording::{RecordEnd, RecordError, Recording};
 pub use reports::{Observed, Reports};
+pub use requests::named_peer;
 pub use server_log::{EndReason, Sender, ServerLog};
 pub use watching::Watch;

@@ -1,5 +1,6 @@
 //! The log of a server: allocations that are made and that end, and credentials that are refused.
 
+use crate::requests::request_in;
 use attributes::Addr;
 use control::{Grant, MAX_TEXT, Response};
 use credentials::AuthError;
@@ -8,7 +9,6 @@ use std::alloc::{AllocError, Global};
 use std::io::Write;
 use std::time::Duration;
 use std::{ascii, fmt};
-use stun::read;
 use stun::registry::ErrorCode;
 use stun::registry::attribute::USERNAME;
 use tables::{Allocation, Tables};
@@ -31,9 +31,6 @@ const LINES_AT_ONCE: usize = 8;
 
 /// The seconds of a period.
 const PERIOD: u64 = 1;
-
-/// The bytes of the header of a STUN message (RFC 8489, section 5).
-const HEADER_BYTES: usize = 20;
 
 /// The USERNAME of a request, as many of its bytes as the longest name of a user has. Displays in quotes, with escapes
 /// for quotes and for bytes that aren't printable ASCII.
@@ -141,15 +138,6 @@ pub struct ServerLog {
     is_over: bool,
 }
 
-/// Returns the STUN message at the start of the room for datagrams, by the length in its header.
-fn message_in(room: &[u8]) -> &[u8] {
-    let [_, _, high, low, ..] = room else {
-        return &[];
-    };
-    let length = usize::from(u16::from_be_bytes([*high, *low]));
-    room.get(..HEADER_BYTES + length).unwrap_or(&[])
-}
-
 impl Name {
     /// Returns a name of bytes.
     fn new(bytes: &[u8]) -> Name {
@@ -178,13 +166,10 @@ impl Sender {
     /// Returns who sent the request that is at the start of the room for datagrams. Without a USERNAME the name is
     /// empty.
     pub fn of_request(client: Addr, room: &[u8]) -> Sender {
-        let value = match read(message_in(room)) {
-            Ok(message) => message.value_of(USERNAME).unwrap_or(&[]),
-            Err(_) => &[],
-        };
+        let value = request_in(room).and_then(|request| request.value_of(USERNAME));
         Sender {
             client,
-            name: Name::new(value),
+            name: Name::new(value.unwrap_or(&[])),
         }
     }
 }

@@ -6,8 +6,8 @@
 pub(crate) enum Chore {
     /// To look at the system's clock.
     Clock,
-    /// To close sockets of clients whose allocations have ended, some at a time, from a slot on. Each slot comes once a
-    /// second.
+    /// To close sockets of clients whose allocations have ended, and of peers whose channels have, some at a time, from
+    /// a token on. Each token comes once a second.
     Sockets(usize),
     /// To look at the files of both programs. Those that have changed together are replaced together.
     ProgramFiles,

@@ -5,11 +5,12 @@ use crate::clock::{elapsed, moment};
 use crate::filters::peer_options;
 use crate::starting::{give_shadows, shadows_of, start};
 use arrayvec::ArrayVec;
+use attributes::Addr;
 use command_line::{Options, ServerOptions};
 use commands::{CommandError, Relayed, end};
 use control::{Grant, Response};
 use mio::{Events, Poll, Token};
-use monitoring::{EndReason, ErrorLines, Observed, RecordEnd, Reports, Sender, Watch};
+use monitoring::{EndReason, ErrorLines, Observed, RecordEnd, Reports, Sender, Watch, named_peer};
 use peer_filter::PeerFilter;
 use rand::rngs::StdRng;
 use rand_core::Rng;
@@ -26,6 +27,7 @@ use std::net::{Ipv4Addr, Ipv6Addr, Net};
 use std::random::RandomSource;
 use std::rt::{Clock, Files};
 use std::time::Duration;
+use tables::Uncounted;
 
 /// How many events one wait reports. Further ones are reported by the next.
 const EVENTS: usize = 256;
@@ -40,7 +42,7 @@ const VERIFYING: u64 = 150;
 /// The most slices of a verification between two turns.
 const SLICES: usize = 10_000;
 
-/// The most sockets that are opened, or closed, between two turns.
+/// The most sockets that are opened for clients, those for peers, and those that are closed, between two turns.
 const SOCKETS: usize = 8;
 
 /// The most pieces of what is due that follow one another where no turns are between them.
@@ -243,13 +245,13 @@ impl<'a> Server<'a> {
         }
     }
 
-    /// Closes some sockets of clients whose allocations have ended, from a slot on. Where there may be more at later
-    /// slots, that is the next chore.
+    /// Closes some sockets of clients whose allocations have ended, and of peers whose channels have, from a token on.
+    /// Where there may be more of later tokens, that is the next chore.
     fn close_own_sockets<R: Clock>(&mut self, rt: &R, first: usize) {
         let now = moment(rt, &self.moments);
         let tables = self.relay.tables();
-        if let Some(slot) = self.wire.sockets.close_others(tables, now, first, SOCKETS) {
-            self.chore = Some(Chore::Sockets(slot));
+        if let Some(token) = self.wire.sockets.close_unused(tables, now, first, SOCKETS) {
+            self.chore = Some(Chore::Sockets(token));
         }
     }
 
@@ -290,14 +292,31 @@ impl<'a> Server<'a> {
         }
     }
 
-    /// Notes what the response to a client's request says: who has an allocation gets a socket of its own, and it is
-    /// logged.
+    /// Has a peer that a client's request names get a socket of its own, if a channel of the client is bound to it.
+    fn want_peer(&mut self, client: Addr, now: u64) {
+        let Some(peer) = named_peer(self.relay.area()) else {
+            return;
+        };
+        let tables = self.relay.tables();
+        if let Some(allocation) = tables.allocation_of(client, now, &mut Uncounted) {
+            self.wire
+                .sockets
+                .want_peer(tables, now, allocation.slot, peer);
+        }
+    }
+
+    /// Notes what the response to a client's request says: who has an allocation gets a socket of its own, and so does
+    /// a peer that a channel is bound to; and it is logged.
     fn note_response(&mut self, from: &Source, response: Response, now: u64) {
         let Source::Client(client) = *from else {
             return;
         };
-        if let Response::Granted(Grant::Allocated { slot, .. }) = response {
-            self.wire.sockets.want_own(slot, client);
+        match response {
+            Response::Granted(Grant::Allocated { slot, .. }) => {
+                self.wire.sockets.want_client(slot, client);
+            }
+            Response::Granted(Grant::Done) => self.want_peer(client, now),
+            _ => {}
         }
         if let Some(log) = self.reports.log() {
             let sender = Sender::of_request(client, self.relay.area());
@@ -334,17 +353,18 @@ impl<'a> Server<'a> {
         self.reports.do_piece(rt, err, of, now)
     }
 
-    /// Gives some new clients sockets of their own, which a poll reports. Returns whether there were some; without a
-    /// poll there are none.
-    fn connect_clients<R: Net>(&mut self, rt: &R, poll: Option<&Poll>) -> bool {
+    /// Opens some sockets that clients and peers are to have, which a poll reports. Returns whether there were some;
+    /// without a poll there are none.
+    fn open_own_sockets<R: Net>(&mut self, rt: &R, poll: Option<&Poll>) -> bool {
         match poll {
-            Some(poll) => self.wire.sockets.connect_wanted(rt, poll, SOCKETS),
+            Some(poll) => self.wire.sockets.open_wanted(rt, poll, SOCKETS),
             None => false,
         }
     }
 
     /// Does one piece of what is due at a time, of the next kind of which something is, and notes whether there was
-    /// one. New clients get sockets of their own where a poll is there to report them.
+    /// one. Clients and peers get sockets of their own where a poll is there to report
+    /// these.
     /// See docs/DECISIONS.md, "What is read once a second".
     fn do_due_work<'b, R: Files + Net + Clock + AllocGlobal, E: Write>(
         &'b mut self,
@@ -583,7 +603,7 @@ impl<R: Files + Net + Clock + AllocGlobal, E: Write> Work for DueWork<'_, '_, R,
     fn do_piece(&mut self, duty: Duty) -> bool {
         match duty {
             Duty::Log => self.server.print_log(self.err, self.now),
-            Duty::Clients => self.server.connect_clients(self.rt, self.poll),
+            Duty::Clients => self.server.open_own_sockets(self.rt, self.poll),
             Duty::Chores => self.server.do_chore(self.rt, self.err),
             Duty::Reports => self.server.report(self.rt, self.err, self.now),
             Duty::Programs => self.server.verify(self.rt, self.err),

@@ -13,6 +13,8 @@ pub enum SocketId {
     Clients,
     /// That of the client whose allocation has this slot.
     ClientOf(usize),
+    /// That of a peer that a channel of this slot is bound to.
+    PeerOf(usize),
     /// That of a slot, of a family.
     Slot(usize, Family),
 }
@@ -28,13 +30,13 @@ impl SocketId {
     {
         match self {
             SocketId::Clients | SocketId::ClientOf(_) => Place::Client,
-            SocketId::Slot(slot, _) => Place::Slot(slot),
+            SocketId::PeerOf(slot) | SocketId::Slot(slot, _) => Place::Slot(slot),
         }
     }
 }
 
 /// Returns which socket has a token, of a server with so many slots. 0 is that of all clients, those of the slots'
-/// clients follow in order, then those of IPv4 of the slots, and then those of IPv6.
+/// clients follow in order, then those of the slots' peers, those of IPv4 of the slots, and those of IPv6.
 #[inline(always)]
 pub fn socket_of(token: usize, slots: usize) -> SocketId
     ensures { (slots6 : ℕ) → token < length (sockets slots slots6) → result ≡ socket_at slots slots6 token }
@@ -46,7 +48,11 @@ pub fn socket_of(token: usize, slots: usize) -> SocketId
     if client < slots {
         return SocketId::ClientOf(client);
     }
-    let slot = client - slots;
+    let peer = client - slots;
+    if peer < slots {
+        return SocketId::PeerOf(peer);
+    }
+    let slot = peer - slots;
     if slot < slots {
         SocketId::Slot(slot, Family::Ipv4)
     } else {

@@ -1,9 +1,12 @@
 //! The UDP sockets of a server.
 #![tactic(auto)]
 
-mod clients;
+mod binding;
+mod own;
+mod shared;
 mod sockets;
 mod udp;
 
-pub use sockets::{Addresses, BindError, EndpointSockets, Sockets};
+pub use binding::{Addresses, BindError};
+pub use sockets::{EndpointSockets, Sockets};
 pub use udp::SocketOptions;

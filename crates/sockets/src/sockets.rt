@@ -1,112 +1,33 @@
-//! The sockets of a server: one for clients, and one of each family for the peers of each slot.
+//! The sockets of a server: those that serve many, and those of single clients and peers.
 
-use crate::clients::{ClientSockets, socket_address};
-use crate::udp::{SocketOptions, addr_of, bind, buffer_of, receive};
+use crate::binding::{Addresses, BindError};
+use crate::own::OwnSockets;
+use crate::shared::{SharedSockets, family_of};
+use crate::udp::{SocketOptions, buffer_of, receive, socket_address};
 use attributes::{Addr, Family};
 use basics::SystemError;
-use mio::net::UdpSocket;
-use mio::{Interest, Poll, Registry, Token};
+use mio::Poll;
 use server::{Ahead, Hairpin, Link, LinkFault, Place, Ports, Receipt, SocketId, socket_of};
 use std::alloc::{AllocError, Global};
 use std::io;
-use std::net::{IpAddr, Ipv4Addr, Ipv6Addr, Net, SocketAddr};
-use tables::Tables;
+use std::net::{Net, SocketAddr};
+use tables::{Tables, Uncounted};
 
-/// The addresses that the sockets of a server are bound to.
-#[derive(Clone, Copy)]
-pub struct Addresses {
-    /// The IPv4 address of the clients' socket, and of a socket of each slot.
-    pub listen: Ipv4Addr,
-    /// The IPv6 address of a further socket of each slot; `None` for none.
-    pub listen6: Option<Ipv6Addr>,
-    /// The port of the clients' socket.
-    pub port: u16,
-    /// The port of slot 0; slot i has `first_port + i`.
-    pub first_port: u16,
-    /// The number of slots.
-    pub slots: usize,
-    /// The options of the clients' socket. The others' ports aren't shared.
-    pub options: SocketOptions,
-    /// The relayed IPv4 address.
-    pub relayed: Ipv4Addr,
-    /// The relayed IPv6 address, if there is one.
-    pub relayed6: Option<Ipv6Addr>,
-}
+/// The token of the first socket that is a client's own.
+const FIRST_OWN: usize = 1;
 
-impl Addresses {
-    /// Returns the address of the clients' socket.
-    pub fn client(&self) -> SocketAddr {
-        SocketAddr::new(IpAddr::V4(self.listen), self.port)
-    }
-
-    /// Returns the ports, of which the clients' is `client`.
-    fn ports(&self, client: u16) -> Ports {
-        let first = self.first_port;
-        let last = usize::from(first).saturating_add(self.slots.saturating_sub(1));
-        Ports {
-            client,
-            first,
-            last: u16::try_from(last).unwrap_or(u16::MAX),
-        }
-    }
-
-    /// Returns by which address data of one slot comes to another, where a relayed address isn't the one that the
-    /// slots' sockets are bound to. Sockets that are bound to all addresses are reached by that of the machine itself.
-    fn hairpin(&self, relayed: IpAddr, listen: IpAddr, itself: IpAddr) -> Option<Hairpin> {
-        let bound = if listen.is_unspecified() {
-            itself
-        } else {
-            listen
-        };
-        let Ports { first, last, .. } = self.ports(self.port);
-        (relayed != listen).then_some(Hairpin {
-            relayed: addr_of(SocketAddr::new(relayed, 0)),
-            bound: addr_of(SocketAddr::new(bound, 0)),
-            first,
-            last,
-        })
-    }
-
-    /// Returns by which address data of one slot comes to another, for each family.
-    fn hairpins(&self) -> (Option<Hairpin>, Option<Hairpin>) {
-        let ipv4 = self.hairpin(
-            IpAddr::V4(self.relayed),
-            IpAddr::V4(self.listen),
-            IpAddr::V4(Ipv4Addr::LOCALHOST),
-        );
-        let ipv6 = match (self.relayed6, self.listen6) {
-            (Some(relayed), Some(listen)) => self.hairpin(
-                IpAddr::V6(relayed),
-                IpAddr::V6(listen),
-                IpAddr::V6(Ipv6Addr::LOCALHOST),
-            ),
-            _ => None,
-        };
-        (ipv4, ipv6)
-    }
-}
-
-/// Why the sockets can't be bound.
-#[derive(Clone, Copy)]
-pub enum BindError {
-    /// The first address that can't be bound, and why.
-    Address(SocketAddr, SystemError),
-    /// Memory ran out.
-    Memory,
-}
+/// The part of a buffer that a client's own socket has, of those that the others have.
+const PART: i32 = 8;
 
 /// The sockets of each endpoint. No call on them waits.
-/// See docs/DECISIONS.md, "Two sockets for each slot".
 #[derive(Drop)]
 pub struct EndpointSockets {
-    /// The socket of all clients.
-    client: UdpSocket,
+    /// Those that serve many.
+    shared: SharedSockets,
     /// Those of clients that have an allocation.
-    clients: ClientSockets,
-    /// The socket of IPv4 of each slot.
-    slots: Vec<UdpSocket>,
-    /// The socket of IPv6 of each slot; empty without an IPv6 address.
-    slots6: Vec<UdpSocket>,
+    clients: OwnSockets,
+    /// One of a peer of each slot that a channel is bound to.
+    peers: OwnSockets,
     ports: Ports,
     /// By which addresses data of one slot comes to another, of each family, where relayed addresses aren't those of
     /// the sockets.
@@ -123,45 +44,23 @@ pub struct Sockets {
     ahead: Ahead,
 }
 
-/// The token of the socket of the client of slot 0.
-const FIRST_CLIENT: usize = 1;
-
-/// Binds a socket to an address.
-fn bind_one<R: Net>(
-    rt: &R,
-    address: SocketAddr,
-    options: SocketOptions,
-) -> Result<UdpSocket, BindError> {
-    match bind(rt, address, options) {
-        Ok(socket) => Ok(socket),
-        Err(error) => Err(BindError::Address(address, SystemError::from(error))),
-    }
-}
-
-/// Binds a socket for each of a number of slots to an IP address, that of slot 0 at the first port.
-fn bind_slots<R: Net + AllocGlobal>(
-    rt: &R,
-    ip: IpAddr,
+/// Returns the sockets of their own of clients and of peers, of which none has one.
+///
+/// # Errors
+/// Where memory runs out.
+fn own_sockets(
+    alloc: Global,
     addresses: Addresses,
-) -> Result<Vec<UdpSocket>, BindError> {
-    let mut options = addresses.options;
-    options.reuse_port = false;
-    let mut sockets = Vec::new(rt.alloc());
-    for port in (addresses.first_port..=u16::MAX).take(addresses.slots) {
-        let socket = bind_one(rt, SocketAddr::new(ip, port), options)?;
-        if sockets.push(socket).is_err() {
-            return Err(BindError::Memory);
-        }
-    }
-    Ok(sockets)
-}
-
-/// Has a poll report sockets under tokens in ascending order, when datagrams have come.
-fn register_all(registry: &Registry, sockets: &mut [UdpSocket], first: usize) -> io::Result<()> {
-    for (token, socket) in (first..).zip(sockets.iter_mut()) {
-        registry.register(socket, Token(token), Interest::READABLE)?;
-    }
-    Ok(())
+) -> Result<(OwnSockets, OwnSockets), AllocError> {
+    let slots = addresses.slots;
+    let of_clients = SocketOptions {
+        buffer: addresses.options.buffer / PART,
+        reuse_port: addresses.options.reuse_port,
+    };
+    let first_peer = slots.saturating_add(FIRST_OWN);
+    let clients = OwnSockets::new(alloc, FIRST_OWN, slots, of_clients)?;
+    let peers = OwnSockets::new(alloc, first_peer, slots, addresses.slot_options())?;
+    Ok((clients, peers))
 }
 
 impl EndpointSockets {
@@ -173,26 +72,19 @@ impl EndpointSockets {
         rt: &R,
         addresses: Addresses,
     ) -> Result<EndpointSockets, BindError> {
-        let listen = IpAddr::V4(addresses.listen);
-        let client = bind_one(rt, addresses.client(), addresses.options)?;
-        let port = match client.local_addr() {
+        let shared = SharedSockets::bind(rt, addresses)?;
+        let port = match shared.client.local_addr() {
             Ok(address) => address.port(),
             Err(error) => {
                 return Err(BindError::Address(addresses.client(), SystemError::from(error)));
             }
         };
+        let (clients, peers) = own_sockets(rt.alloc(), addresses).map_err(|_| BindError::Memory)?;
         let (hairpin, hairpin6) = addresses.hairpins();
-        let Ok(clients) = ClientSockets::new(rt.alloc(), addresses.slots, addresses.options) else {
-            return Err(BindError::Memory);
-        };
         Ok(EndpointSockets {
-            client,
+            shared,
             clients,
-            slots: bind_slots(rt, listen, addresses)?,
-            slots6: match addresses.listen6 {
-                Some(ip) => bind_slots(rt, IpAddr::V6(ip), addresses)?,
-                None => Vec::new(rt.alloc()),
-            },
+            peers,
             ports: addresses.ports(port),
             hairpin,
             hairpin6,
@@ -205,35 +97,57 @@ impl EndpointSockets {
         self.ports.client
     }
 
-    /// Returns the slot of the socket at which datagrams are received, or the one of its client; none of the socket of
-    /// all clients.
+    /// Returns the slot of the socket at which datagrams are received, or the one of its client or peer; none of the
+    /// socket of all clients.
     #[inline(always)]
     fn chosen_slot(&self) -> Option<usize> {
         match self.chosen {
             SocketId::Clients => None,
-            SocketId::ClientOf(slot) | SocketId::Slot(slot, _) => Some(slot),
+            SocketId::ClientOf(slot) | SocketId::PeerOf(slot) | SocketId::Slot(slot, _) => {
+                Some(slot)
+            }
         }
     }
 
-    /// Sends a datagram to a client at its own socket, which the system needn't ask for the way to it. Returns whether
-    /// it was sent: not where it isn't the client of the slot that has its turn, or has no such socket.
+    /// Sends a datagram to a client, or to a peer, at its own socket, which the system needn't ask for the way to it.
+    /// Returns whether it was sent: not where there is no such socket, or where a client isn't that of the slot that
+    /// has its turn.
     #[inline(always)]
     fn send_at_own(&self, endpoint: Place, to: &Addr, bytes: &[u8]) -> bool {
         match (endpoint, self.chosen_slot()) {
             (Place::Client, Some(slot)) => self.clients.send(slot, to, bytes),
-            _ => false,
+            (Place::Client, None) => false,
+            (Place::Slot(slot), _) => self.peers.send(slot, to, bytes),
         }
     }
 
-    /// Returns the socket of a family at an endpoint. That of clients is of IPv4.
-    fn at(&self, endpoint: Place, family: Family) -> Result<&UdpSocket, LinkFault> {
-        let socket = match (endpoint, family) {
-            (Place::Client, Family::Ipv4) => Some(&self.client),
-            (Place::Client, Family::Ipv6) => None,
-            (Place::Slot(slot), Family::Ipv4) => self.slots.get(slot),
-            (Place::Slot(slot), Family::Ipv6) => self.slots6.get(slot),
+    /// Returns whether a channel of a slot is bound to the peer that has a socket of its own there.
+    fn has_channel(&self, tables: &Tables, slot: usize, now: u64) -> bool {
+        let Some(address) = self.peers.address_of(slot) else {
+            return false;
         };
-        socket.ok_or(LinkFault)
+        let peer = self.inward(Place::Slot(slot), address);
+        tables.channel_of(slot, peer, now, &mut Uncounted).is_some()
+    }
+
+    /// Returns whether the client that has a socket of its own by a slot has the allocation there.
+    fn has_allocation(&self, tables: &Tables, slot: usize, now: u64) -> bool {
+        let holder = tables.allocation_at(slot, now);
+        holder.is_some_and(|allocation| self.clients.address_of(slot) == Some(allocation.client))
+    }
+
+    /// Closes a socket if it is the own one of a client that has no allocation at its slot any more, or of a peer that
+    /// no channel of its slot is bound to any more, and nothing waits there. Returns whether it did.
+    fn close_unused(&mut self, socket: SocketId, tables: &Tables, now: u64) -> bool {
+        match socket {
+            SocketId::ClientOf(slot) if !self.has_allocation(tables, slot, now) => {
+                self.clients.close_idle(slot)
+            }
+            SocketId::PeerOf(slot) if !self.has_channel(tables, slot, now) => {
+                self.peers.close_idle(slot)
+            }
+            _ => false,
+        }
     }
 
     /// Returns by which addresses data of one slot comes to another, where an address is one of these.
@@ -282,87 +196,93 @@ impl Sockets {
 
     /// Returns the bytes that the smaller buffer of the clients' socket has.
     pub fn buffer(&self) -> io::Result<i32> {
-        buffer_of(&self.endpoints.client)
+        buffer_of(&self.endpoints.shared.client)
     }
 
     /// Returns the address of the clients' socket. Where port 0 was asked for, its port is the one that the system
     /// chose.
     pub fn address(&self) -> io::Result<SocketAddr> {
-        self.endpoints.client.local_addr()
+        self.endpoints.shared.client.local_addr()
     }
 
-    /// Returns the number of tokens: one for each socket, and for each that a client may have.
+    /// Returns the token of the first socket of a slot: before it are that of all clients, and for each slot those that
+    /// its client and a peer may have.
+    fn first_slot(&self) -> usize {
+        let slots = self.endpoints.shared.slots();
+        slots.saturating_add(slots).saturating_add(FIRST_OWN)
+    }
+
+    /// Returns the number of tokens: one for each socket, and for each that a client or a peer may have.
     pub fn count(&self) -> usize {
-        let EndpointSockets { slots, slots6, .. } = &self.endpoints;
-        let clients = slots.len();
-        slots
-            .len()
-            .saturating_add(slots6.len())
-            .saturating_add(clients)
-            .saturating_add(1)
+        self.first_slot()
+            .saturating_add(self.endpoints.shared.slots())
+            .saturating_add(self.endpoints.shared.slots6())
     }
 
     /// Has a poll report each socket under its token, as [`socket_of`] says, when datagrams have come there.
     pub fn register(&mut self, poll: &Poll) -> io::Result<()> {
-        let EndpointSockets {
-            client,
-            slots,
-            slots6,
-            ..
-        } = &mut self.endpoints;
-        let registry = poll.registry();
-        registry.register(client, Token(0), Interest::READABLE)?;
-        let first = slots.len().saturating_add(FIRST_CLIENT);
-        let first6 = slots.len().saturating_add(first);
-        register_all(registry, slots.as_mut_slice(), first)?;
-        register_all(registry, slots6.as_mut_slice(), first6)
+        let first = self.first_slot();
+        self.endpoints.shared.register(poll.registry(), first)
     }
 
     /// Chooses a socket by its token, and returns its endpoint. Datagrams are received at the socket that was chosen
     /// last.
     pub fn choose(&mut self, token: usize) -> Place {
-        let socket = socket_of(token, self.endpoints.slots.len());
+        let socket = socket_of(token, self.endpoints.shared.slots());
         self.endpoints.chosen = socket;
         socket.place()
     }
 
     /// Notes that the client of a slot is to have a socket of its own, to which the system hands its datagrams alone.
     /// See docs/DECISIONS.md, "A socket for each client".
-    pub fn want_own(&mut self, slot: usize, client: Addr) {
+    pub fn want_client(&mut self, slot: usize, client: Addr) {
         self.endpoints.clients.want(slot, client);
     }
 
-    /// Gives at most so many of the clients that are to have a socket one, which a poll reports. Returns whether there
-    /// was a client that was to have one.
-    pub fn connect_wanted<R: Net>(&mut self, rt: &R, poll: &Poll, most: usize) -> bool {
-        let EndpointSockets {
-            client,
-            clients,
-            ..
-        } = &mut self.endpoints;
-        clients.connect_wanted(rt, client, poll.registry(), FIRST_CLIENT, most)
+    /// Notes that a peer is to have a socket of its own if a channel of a slot is bound to it, unless another peer that
+    /// a channel is bound to has one there.
+    /// See docs/DECISIONS.md, "A socket for the peer of a channel".
+    pub fn want_peer(&mut self, tables: &Tables, now: u64, slot: usize, peer: Addr) {
+        let is_bound = tables.channel_of(slot, peer, now, &mut Uncounted).is_some();
+        if is_bound && !self.endpoints.has_channel(tables, slot, now) {
+            let address = self.endpoints.outward(Place::Slot(slot), peer);
+            self.endpoints.peers.want(slot, address);
+        }
     }
 
-    /// Closes at most so many sockets, of the slots from one on, of clients that have no allocation at their slot any
-    /// more, and at which nothing waits. Returns the slot at which to continue, if as many are closed.
-    pub fn close_others(
+    /// Opens at most so many of the sockets that clients are to have, and as many of those that peers are to have,
+    /// which a poll reports. Returns whether there was one to open.
+    pub fn open_wanted<R: Net>(&mut self, rt: &R, poll: &Poll, most: usize) -> bool {
+        let EndpointSockets {
+            shared,
+            clients,
+            peers,
+            ..
+        } = &mut self.endpoints;
+        let has_clients = clients.open_wanted(rt, shared, poll.registry(), most);
+        let has_peers = peers.open_wanted(rt, shared, poll.registry(), most);
+        has_clients || has_peers
+    }
+
+    /// Closes at most so many sockets, of the tokens from one on, of clients that have no allocation at their slot any
+    /// more, and of peers that no channel of their slot is bound to any more, and at which nothing waits. Returns the
+    /// token at which to continue, if as many are closed.
+    pub fn close_unused(
         &mut self,
         tables: &Tables,
         now: u64,
         first: usize,
         most: usize,
     ) -> Option<usize> {
+        let slots = self.endpoints.shared.slots();
         let mut closed = 0;
-        for slot in first..self.endpoints.slots.len() {
+        for token in first..self.first_slot() {
             if closed >= most {
-                return Some(slot);
+                return Some(token);
             }
-            let Some(client) = self.endpoints.clients.client_of(slot) else {
-                continue;
-            };
-            let holder = tables.allocation_at(slot, now);
-            if !holder.is_some_and(|allocation| allocation.client == client)
-                && self.endpoints.clients.close_idle(slot)
+            if self
+                .endpoints
+                .close_unused(socket_of(token, slots), tables, now)
             {
                 closed += 1;
             }
@@ -381,10 +301,11 @@ impl Link for EndpointSockets {
     fn receive(&mut self, endpoint: Place, into: &mut [u8]) -> Result<Receipt, LinkFault> {
         let receipt = match (endpoint, self.chosen) {
             (Place::Client, SocketId::ClientOf(slot)) => self.clients.receive(slot, into)?,
+            (Place::Slot(_), SocketId::PeerOf(slot)) => self.peers.receive(slot, into)?,
             (Place::Slot(_), SocketId::Slot(_, family)) => {
-                receive(self.at(endpoint, family)?, into)?
+                receive(self.shared.at(endpoint, family)?, into)?
             }
-            _ => receive(self.at(endpoint, Family::Ipv4)?, into)?,
+            _ => receive(self.shared.at(endpoint, Family::Ipv4)?, into)?,
         };
         match receipt {
             Some((n, from)) => Ok(Some((n, self.inward(endpoint, from)))),
@@ -392,20 +313,17 @@ impl Link for EndpointSockets {
         }
     }
 
-    /// Sends a datagram from an endpoint: to a client at its own socket, and where that sends nothing, at the
+    /// Sends a datagram from an endpoint: to a client or a peer at its own socket, and where that sends nothing, at the
     /// endpoint's. One that would have to wait there, or isn't sent whole, is a fault.
     /// See docs/DECISIONS.md, "Data between two clients of one server" and "A socket for each client".
     fn send(&mut self, endpoint: Place, to: Addr, bytes: &[u8]) -> Result<(), LinkFault> {
+        let to = self.outward(endpoint, to);
         if self.send_at_own(endpoint, &to, bytes) {
             return Ok(());
         }
-        let to = self.outward(endpoint, to);
-        let family = match to {
-            Addr::V4 { .. } => Family::Ipv4,
-            Addr::V6 { .. } => Family::Ipv6,
-        };
         match self
-            .at(endpoint, family)?
+            .shared
+            .at(endpoint, family_of(to))?
             .send_to(bytes, socket_address(to))
         {
             Ok(n) if n == bytes.len() => Ok(()),

@@ -10,7 +10,7 @@ use mio::net::UdpSocket;
 use os::FromRawFd;
 use server::{LinkFault, Receipt};
 use std::io::{self, ErrorKind};
-use std::net::{Net, SocketAddr, SocketAddrV4, SocketAddrV6};
+use std::net::{Ipv4Addr, Ipv6Addr, Net, SocketAddr, SocketAddrV4, SocketAddrV6};
 use std::os::fd::{AsRawFd, OwnedFd};
 
 /// The lengths of C's `sockaddr_in` and `sockaddr_in6`.
@@ -145,6 +145,16 @@ pub(crate) fn buffer_of(socket: &UdpSocket) -> io::Result<i32> {
     let received = i32::from_ne_bytes([a, b, c, d]);
     let sent = i32::from_ne_bytes([e, f, g, h]);
     Ok(received.min(sent) / 2)
+}
+
+/// Returns an address as that of a socket.
+pub(crate) fn socket_address(address: Addr) -> SocketAddr {
+    match address {
+        Addr::V4 { ip, port } => SocketAddr::V4(SocketAddrV4::new(Ipv4Addr::from(ip), port)),
+        Addr::V6 { ip, port } => {
+            SocketAddr::V6(SocketAddrV6::new(Ipv6Addr::from(ip), port, 0, 0))
+        }
+    }
 }
 
 /// Returns the address of a socket.
