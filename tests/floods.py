@@ -3,9 +3,10 @@ there. It is no part of the test command.
 
     tests/floods.py [SECONDS]
 
-100 sessions send 5,000 datagrams a second over channels, for some seconds without a flood and beside each: a stranger's garbage, one
-session that sends as fast as it can, and a stranger's requests with a wrong password, each by processes that do nothing else. What
-doesn't come to the peer within a second is lost. Floods are faster on one machine than on another, so how many datagrams they sent
+100 sessions send 5,000 datagrams a second over channels to a peer, which sends 50 a second to the first of them, for some seconds
+without a flood and beside each: a stranger's garbage to clients' port, or to the relayed port of the first session, one session
+that sends as fast as it can, and a stranger's requests with a wrong password, each by processes that do nothing else. What doesn't
+come to the peer, or to the client of the first session, within a second is lost. Floods are faster on one machine than on another, so how many datagrams they sent
 is printed as well. Where there are four processors or more, the servers have one, and the sessions one.
 """
 
@@ -20,7 +21,7 @@ import tempfile
 import time
 
 from lib.program import build
-from lib.rules import ALLOCATE, NONCE, REALM, USERNAME, message
+from lib.rules import ALLOCATE, NONCE, REALM, USERNAME, XOR_RELAYED_ADDRESS, address_in, message
 from lib.server import UDP, Client, Server, address_of, channel_data, code_of, udp_socket
 from serve_speed import Coturn
 
@@ -52,8 +53,8 @@ def flood(datagrams, server, bound, stop, sent):
 
 
 def garbage(server):
-    """A socket of a stranger, and random bytes."""
-    return udp_socket(), [os.urandom(100) for _ in range(100)]
+    """A socket of a stranger, whose address nobody permits, and random bytes."""
+    return udp_socket(address="127.0.0.2"), [os.urandom(100) for _ in range(100)]
 
 
 def busy_session(server):
@@ -74,7 +75,9 @@ def wrong_passwords(server):
     return client.socket, [message(ALLOCATE, os.urandom(12), given, client.key) for _ in range(100)]
 
 
-FLOODS = {"nothing": None, "garbage": garbage, "a busy session": busy_session, "wrong passwords": wrong_passwords}
+# what makes each, and whether it is sent to the relayed port of the first session
+FLOODS = {"nothing": (None, False), "garbage": (garbage, False), "garbage at a relayed port": (garbage, True),
+          "a busy session": (busy_session, False), "wrong passwords": (wrong_passwords, False)}
 
 
 class Sessions:
@@ -84,37 +87,45 @@ class Sessions:
         self.peer = stack.enter_context(udp_socket())
         self.peer.setsockopt(socket.SOL_SOCKET, 33, BUFFER)  # SO_RCVBUFFORCE
         self.peer.setblocking(False)
+        self.came = [0, 0]  # at the peer, and at the client of the first session
         self.clients = [stack.enter_context(Client(server)) for _ in range(SESSIONS)]
         for client in self.clients:
-            client.allocate()
+            answer = client.allocate()
+            if client is self.clients[0]:
+                port = address_in(answer.first(XOR_RELAYED_ADDRESS), answer.transaction_id)[1]
+                self.relayed = ("127.0.0.1", port)
             if code_of(client.bind(address_of(self.peer))) != 0:
                 raise ValueError("no channel")
+        self.clients[0].socket.setblocking(False)
 
-    def received(self):
-        """Receives what has come, and returns how many datagrams these are."""
-        count = 0
-        with contextlib.suppress(BlockingIOError):
-            while True:
-                self.peer.recv(2_000)
-                count += 1
-        return count
+    def receive(self):
+        """Receives what has come at the peer, and at the client of the first session, and counts it."""
+        for index, bound in enumerate((self.peer, self.clients[0].socket)):
+            with contextlib.suppress(BlockingIOError):
+                while True:
+                    bound.recv(2_000)
+                    self.came[index] += 1
 
     def lost(self, seconds):
-        """Sends for some seconds, and returns the share that is lost."""
-        data, sent, came, began = channel_data(bytes(SIZE)), 0, self.received() * 0, time.monotonic()
+        """Sends for some seconds, and returns the share that is lost to the peer, and from it."""
+        data, sent, began = channel_data(bytes(SIZE)), 0, time.monotonic()
+        self.receive()
+        self.came = [0, 0]
         for client in itertools.cycle(self.clients):
             while (ahead := sent / RATE - (time.monotonic() - began)) > 0:
-                came += self.received()
+                self.receive()
                 time.sleep(min(ahead, 0.001))
             if sent >= RATE * seconds:
                 break
             client.send(data)
+            if client is self.clients[0]:
+                self.peer.sendto(bytes(SIZE), self.relayed)
             sent += 1
         end = time.monotonic() + 1
         while time.monotonic() < end:
-            came += self.received()
+            self.receive()
             time.sleep(0.01)
-        return 1 - came / sent
+        return 1 - self.came[0] / sent, 1 - self.came[1] * SESSIONS / sent
 
 
 def measured(name, server, pid, seconds):
@@ -123,21 +134,23 @@ def measured(name, server, pid, seconds):
         on_processor(SERVER_CPU, int(thread))
     with contextlib.ExitStack() as stack:
         sessions = Sessions(server, stack)
-        for title, kind in FLOODS.items():
+        for title, (kind, is_relayed) in FLOODS.items():
             stop, sent = multiprocessing.Event(), multiprocessing.Value("q", 0)
             process = None
             if kind is not None:
                 bound, datagrams = kind(server)
-                process = multiprocessing.Process(target=flood, args=(datagrams, ("127.0.0.1", server.port), bound, stop, sent))
+                flooded = sessions.relayed if is_relayed else ("127.0.0.1", server.port)
+                process = multiprocessing.Process(target=flood, args=(datagrams, flooded, bound, stop, sent))
                 process.start()
                 time.sleep(0.2)
             began, at_first = time.monotonic(), sent.value
-            lost = sessions.lost(seconds)
+            lost, lost_back = sessions.lost(seconds)
             rate = (sent.value - at_first) / (time.monotonic() - began)
             if process is not None:
                 stop.set()
                 process.join()
-            print(f"{name}, beside {title}: {lost:.2%} of the sessions' datagrams lost, {rate:,.0f} a second sent by the flood", flush=True)
+            print(f"{name}, beside {title}: {lost:.2%} of the sessions' datagrams lost, and {lost_back:.2%} of the peer's, "
+                  f"{rate:,.0f} a second sent by the flood", flush=True)
             time.sleep(1)
 
 
