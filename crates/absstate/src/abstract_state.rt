@@ -12,7 +12,7 @@ use semantics::{GROUP_BYTES, GROUPS, Room, STACK_BYTES};
 use std::alloc::AllocError;
 
 /// A place of the datagram from which pointers count their offsets.
-/// See docs/DECISIONS.md, "Anchors inside pointers".
+/// See docs/DESIGN.md, "Anchors inside pointers".
 #[derive(Clone, Copy, Debug, PartialEq, Eq)]
 pub enum Anchor {
     /// The datagram's first byte.

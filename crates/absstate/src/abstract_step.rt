@@ -79,7 +79,7 @@ fn single_of<D: Domain>(number: D) -> Option<u64>
 }
 
 /// Moves an offset by a single number.
-/// See docs/DECISIONS.md, "Offsets in 32 bits".
+/// See docs/DESIGN.md, "Offsets in 32 bits".
 ///
 /// # Errors
 /// `PointerArithmetic` where the number isn't a single one, where the operator moves no pointer, or where it would lead

@@ -48,7 +48,7 @@ pub(crate) struct Implied {
 }
 
 /// Returns what the branches of `offset CONDITION End` imply.
-/// See docs/DECISIONS.md, "A bound or none".
+/// See docs/DESIGN.md, "A bound or none".
 fn data_implies(condition: Condition, offset: i32) -> Result<Implied, Reason>
     ensures { result ≡ order_implication condition (data_bound condition offset) }
 {

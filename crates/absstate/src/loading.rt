@@ -27,7 +27,7 @@ fn number_of_size<D: Domain>(size: Size) -> D
 }
 
 /// Returns what is known of a field of the context record.
-/// See docs/DECISIONS.md, "The length of a datagram".
+/// See docs/DESIGN.md, "The length of a datagram".
 fn field_known<D: Domain>(field: ContextField) -> AbstractValue<D>
     ensures { result ≡ field_known D.ops field }
 {

@@ -71,7 +71,7 @@ fn short_offset(offset: i64) -> Option<i32>
 
 /// Returns the offset from an anchor with places from `low` to `high`, moved by a single number. `None` where a place
 /// would lie too far.
-/// See docs/DECISIONS.md, "Offsets in 32 bits".
+/// See docs/DESIGN.md, "Offsets in 32 bits".
 fn moved_offset(operator: Operator, low: i32, high: i32, offset: i32, by: u64) -> Option<i32>
     ensures { result ≡ moved_offset operator.op operator.width low high offset by }
 {

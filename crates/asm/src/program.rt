@@ -67,7 +67,7 @@ fn next_line(text: &str, number: usize) -> Result<(Line<'_>, Option<&str>), AsmE
 }
 
 /// Reads all lines, and returns the table of the labels.
-/// See docs/DECISIONS.md, "A text is read twice".
+/// See docs/DESIGN.md, "A text is read twice".
 ///
 /// # Errors
 /// The first fault of a line, `TooLong` where there is none and the slots are too many, or `Memory`.

@@ -27,7 +27,7 @@ impl Count for Uncounted {
 
 /// How many steps were made: abstract steps of the verifier, and keys that look-ups of the tables compare. It has no
 /// bytes at run time, and only `tick` changes it.
-/// See docs/DECISIONS.md, "One count".
+/// See docs/DESIGN.md, "One count".
 #[derive(Drop)]
 pub struct Steps<L: Ledger> {
     book: Book<L>,

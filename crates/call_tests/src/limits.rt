@@ -1,5 +1,5 @@
 //! The limits that code and contracts share, against the numbers of this profile.
-//! See docs/DECISIONS.md, "Limits have names".
+//! See docs/DESIGN.md, "Limits have names".
 
 use insn::MAX_SLOTS;
 use loader::BUDGET;

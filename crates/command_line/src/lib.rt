@@ -300,7 +300,7 @@ fn relayd<'a>(alloc: Global) -> Result<Command<'a>, AllocError>
 
 /// Parses the words of a command line, of which the first is the program's name. Where it accepts them, a subcommand is
 /// there.
-/// See docs/DECISIONS.md, "Command lines are clap's".
+/// See docs/DESIGN.md, "Command lines are clap's".
 ///
 /// # Errors
 /// Returns an error where a word is wrong or missing, where the words request a help text, and where

@@ -34,7 +34,7 @@ fn users_fault<'a>(error: UsersError, texts: &[&'a str]) -> CommandError<'a> {
 }
 
 /// Returns the users that the options name, and the text of the file that has some of them.
-/// See docs/DECISIONS.md, "A user is required".
+/// See docs/DESIGN.md, "A user is required".
 fn users_of<'a, R: Files + AllocGlobal>(
     rt: &R,
     options: &Options<'a>,

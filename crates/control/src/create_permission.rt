@@ -75,7 +75,7 @@ fn distinct_peers(message: &Message<'_>) -> ArrayVec<Addr, MAX_PEERS>
 }
 
 /// Answers a CreatePermission request of a user.
-/// See docs/DECISIONS.md, "A request is read twice".
+/// See docs/DESIGN.md, "A request is read twice".
 ///
 /// # Errors
 /// The error of the first test that fails.

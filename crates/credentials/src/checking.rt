@@ -174,7 +174,7 @@ impl Directory<'_> {
     }
 
     /// Returns the account of a name in a realm.
-    /// See docs/DECISIONS.md, "The key of a check".
+    /// See docs/DESIGN.md, "The key of a check".
     fn account(&self, realm: &str, name: &[u8]) -> Option<Authenticated>
         ensures some { IfSome result (λ a. HasAccount realm.now (directory_of self.now) name.now (account_of a)) }
         ensures none { IfNone result (HasNoAccount realm.now (directory_of self.now) name.now) }

@@ -1,5 +1,5 @@
 //! What comes to a relay and what it sends, and both as lines of text.
-//! See docs/DECISIONS.md, "Events are below programs".
+//! See docs/DESIGN.md, "Events are below programs".
 #![tactic(auto)]
 
 mod action;

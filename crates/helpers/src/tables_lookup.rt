@@ -12,7 +12,7 @@ use tables::{Count, LiveSlot, Uncounted};
 
 /// The helpers that look up in the slot of a client's allocation, or of a relayed address, as it is at a moment.
 /// Without an allocation that is live then they find nothing.
-/// See docs/DECISIONS.md, "Lawful helpers".
+/// See docs/DESIGN.md, "Lawful helpers".
 #[derive(Drop)]
 pub struct Lookup<'a> {
     pub live: Option<LiveSlot<'a>>,

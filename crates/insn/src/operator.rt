@@ -10,7 +10,7 @@ use crate::size::{SignedSize, SwapSize};
 use crate::width::Width;
 
 /// An operator with two operands.
-/// See docs/DECISIONS.md, "Operators and their codes".
+/// See docs/DESIGN.md, "Operators and their codes".
 #[derive(Clone, Copy, Debug, PartialEq, Eq)]
 pub enum AluOp {
     /// `dst += operand`
@@ -42,7 +42,7 @@ pub enum AluOp {
 }
 
 /// An operator with one operand.
-/// See docs/DECISIONS.md, "One operand, one type".
+/// See docs/DESIGN.md, "One operand, one type".
 #[derive(Clone, Copy, Debug, PartialEq, Eq)]
 pub enum UnaryOp {
     /// `MOV`: the operand.

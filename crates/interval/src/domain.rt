@@ -16,7 +16,7 @@ pub struct Bounds {
 
 /// A test on two numbers: that a condition holds, for the branch that is taken, or that it fails, for the one that is
 /// not.
-/// See docs/DECISIONS.md, "A refinement is of a test".
+/// See docs/DESIGN.md, "A refinement is of a test".
 #[derive(Clone, Copy, Debug, PartialEq, Eq)]
 pub enum Test {
     /// The condition holds.
@@ -37,7 +37,7 @@ pub struct Refined<D> {
 /// An implementation gives its operations as functions, says what a member is, and proves that the operations are
 /// sound: what they answer has each result of members as a member. So a domain may know as much or as little as it
 /// likes. Its numbers take at most 65,536 bytes each, so that states made of them fit in memory.
-/// See docs/DECISIONS.md, "Abstract numbers are small".
+/// See docs/DESIGN.md, "Abstract numbers are small".
 pub trait Domain: Copy {
     ghost ops: { Operations Self };
 

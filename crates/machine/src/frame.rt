@@ -154,7 +154,7 @@ impl Frame {
 
     /// Returns the room for a datagram, 65,507 bytes, to be written. Afterwards the frame is not started, and nothing
     /// else of it changes.
-    /// See docs/DECISIONS.md, "The room of a frame".
+    /// See docs/DESIGN.md, "The room of a frame".
     #[tactic(auto, using(crate::proofs::Frames::frame_written, crate::proofs::Frames::written_after))]
     pub fn area(&mut self) -> &mut [u8]
         ensures value { result.now ≡ room_of self.old }

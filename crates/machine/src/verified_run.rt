@@ -41,7 +41,7 @@ fn run_area<H: Helpers>(program: &Verified, frame: &mut Frame, helpers: &H) -> F
 
 /// Runs a verified program over a started frame to its exit, within as many steps as the program has instructions.
 /// There is no refusal. Afterwards the frame is not started.
-/// See docs/DECISIONS.md, "A run is a function".
+/// See docs/DESIGN.md, "A run is a function".
 pub fn run<H: Helpers>(program: &Verified, frame: &mut Frame, helpers: &H) -> Outcome
     requires { frame.old.is_started ≡ true }
     ensures outcome { IsOutcome result (safe_run_of program.now frame.old (H.answers helpers.now)) }

@@ -9,7 +9,7 @@ impl Relay {
     ghost use Rattle.relay.specs.Steps.{outcome_of};
 
     /// States that a datagram harms nobody.
-    /// See docs/DECISIONS.md, "Laws over any two programs".
+    /// See docs/DESIGN.md, "Laws over any two programs".
     pub(crate) fn law_steps_are_harmless(&self, meta: &Meta, n: usize)
         ensures { IsHarmless self.now.programs self.now.config (state_of self.now) meta.entry.now
             (datagram_at self.now n) (outcome_of self.now meta.entry.now n).answer }

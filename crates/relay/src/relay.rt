@@ -331,7 +331,7 @@ impl Relay {
     /// sent, of a bounded length, the rows of others stay, and rows change only by requests whose credentials are
     /// accepted; and where programs are confined, nothing goes to a peer, or comes from one, that the client hasn't
     /// permitted.
-    /// See docs/DECISIONS.md, "A system is a function".
+    /// See docs/DESIGN.md, "A system is a function".
     #[inline(always)]
     pub fn step(&mut self, meta: Meta, n: usize) -> Step<'_>
         requires { n ≤ MAX_DATAGRAM }

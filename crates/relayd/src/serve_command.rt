@@ -489,7 +489,7 @@ impl<'a> Server<'a> {
 
     /// Serves a socket, and receives ahead there if the server is busy. Returns whether more may be there.
     /// See docs/DECISIONS.md, "A clock is read once a drain".
-    /// See docs/DECISIONS.md, "One function serves a datagram".
+    /// See docs/DESIGN.md, "One function serves a datagram".
     /// See docs/DECISIONS.md, "A busy server receives ahead".
     #[inline(never)]
     fn drain<R: Clock>(&mut self, rt: &R, token: usize) -> bool {

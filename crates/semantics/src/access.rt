@@ -16,7 +16,7 @@ pub const STACK_FIRST: i64 = -(STACK_BYTES as i64);
 pub const HEADROOM_FIRST: i64 = -(HEADROOM as i64);
 
 /// Where an access lies, by the index of its first byte.
-/// See docs/DECISIONS.md, "Located first, then read or written".
+/// See docs/DESIGN.md, "Located first, then read or written".
 #[derive(Clone, Copy, Debug, PartialEq, Eq)]
 pub enum Location {
     /// Among the cells of the stack.

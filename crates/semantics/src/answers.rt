@@ -6,8 +6,8 @@ ghost use Rattle.semantics.specs.Nothing.{empty_answer};
 ghost use Rattle.semantics.specs.laws.Nothing.{nothing_is_lawful};
 
 /// The helpers 1 to 3 and 6 to 8, which look up channels and permissions in the slot of a run.
-/// See docs/DECISIONS.md, "Lawful helpers".
-/// See docs/DECISIONS.md, "Possible contexts and helpers".
+/// See docs/DESIGN.md, "Lawful helpers".
+/// See docs/DESIGN.md, "Possible contexts and helpers".
 pub trait Helpers {
     /// The answer of a helper to a number and an address record.
     ghost answers: { Self → ℕ → ℕ → List ℕ → ℕ × List ℕ };

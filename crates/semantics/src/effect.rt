@@ -25,7 +25,7 @@ use insn::{
 pub type Registers = [Value; 11];
 
 /// The effect of an instruction that is not stuck.
-/// See docs/DECISIONS.md, "Stores and calls are data".
+/// See docs/DESIGN.md, "Stores and calls are data".
 #[derive(Clone, Copy, Debug, PartialEq, Eq)]
 pub enum Effect {
     /// Writes the value to `dst`, and continues with the next instruction.

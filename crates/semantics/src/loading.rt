@@ -21,7 +21,7 @@ use insn::{SignedSize, Size, little_endian, sign_extended};
 pub const CONTEXT_BYTES: usize = 68;
 
 /// A field of the context record.
-/// See docs/DECISIONS.md, "The context record".
+/// See docs/DESIGN.md, "The context record".
 #[derive(Clone, Copy, Debug, PartialEq, Eq)]
 pub enum ContextField {
     /// The datagram's first byte, a pointer.

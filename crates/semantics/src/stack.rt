@@ -11,7 +11,7 @@ use crate::value::Value;
 
 /// The stack: 512 cells, and for each aligned group of eight of them the pointer that it holds in their place. The
 /// first cell is at place -512. The cells of a group that holds a pointer are uninitialised.
-/// See docs/DECISIONS.md, "Pointers beside the cells".
+/// See docs/DESIGN.md, "Pointers beside the cells".
 #[derive(Clone, Copy, Debug, PartialEq, Eq)]
 pub struct StackMemory {
     /// The cells, each a byte or nothing.

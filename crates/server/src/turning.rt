@@ -198,8 +198,8 @@ pub(crate) fn take<L: Link, R: Recorder>(
 /// Takes one turn at an endpoint, and counts it: receives once, records what came, steps, and sends the answer once, if
 /// there is one and neither its peer nor its client is denied. Returns what became of the datagram that came; `None` is
 /// that none came.
-/// See docs/DECISIONS.md, "One function serves a datagram".
-/// See docs/DECISIONS.md, "A turn is counted when it ends".
+/// See docs/DESIGN.md, "One function serves a datagram".
+/// See docs/DESIGN.md, "A turn is counted when it ends".
 ///
 /// # Errors
 /// Where the receive fails or counts more than 65,507 bytes; then the relay is as before, and nothing is recorded or

@@ -24,7 +24,7 @@ impl<'a> Builder<'a> {
     ghost use Rattle.std.specs.Borrow.{sem, Array, u8, RestsIfErr};
 
     /// Begins a message with no attributes over the first bytes of a buffer.
-    /// See docs/DECISIONS.md, "A proof by hand".
+    /// See docs/DESIGN.md, "A proof by hand".
     ///
     /// # Errors
     /// Returns [`NoRoom`] for a buffer of less than 20 bytes, which it leaves unchanged.
@@ -55,7 +55,7 @@ impl<'a> Builder<'a> {
     }
 
     /// Returns the builder of the message that a buffer begins with.
-    /// See docs/DECISIONS.md, "Two ways to begin a message".
+    /// See docs/DESIGN.md, "Two ways to begin a message".
     pub fn resume(buffer: &'a mut [u8]) -> Builder<'a>
         requires { IsBuilding buffer.old }
         ensures bytes { bytes_of result ≡ buffer.old }
@@ -105,7 +105,7 @@ impl<'a> Builder<'a> {
 
     /// Appends an attribute where the caller knows that there is room, so that it can't fail: the 7 bytes
     /// beside the value are the type, the length and the most padding.
-    /// See docs/DECISIONS.md, "A push that cannot fail".
+    /// See docs/DESIGN.md, "A push that cannot fail".
     pub fn push<V: AttributeValue>(&mut self, kind: u16, value: &V)
         requires room { used_of self.old + length (V.bytes value.now) + 7 ≤ capacity_of self.old }
         ensures appends { Appends kind (V.bytes value.now) self.old self.new }

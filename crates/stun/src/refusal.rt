@@ -24,7 +24,7 @@ pub enum StunError {
 }
 
 /// S6: a message would be longer than its buffer, or its length longer than 16 bits. Nothing was changed.
-/// See docs/DECISIONS.md, "No room is a type of its own".
+/// See docs/DESIGN.md, "No room is a type of its own".
 #[derive(Clone, Copy, Debug, PartialEq, Eq, Error)]
 #[error("S6")]
 pub struct NoRoom;

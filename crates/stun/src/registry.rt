@@ -109,7 +109,7 @@ impl Class {
 }
 
 /// The type of a message: a method and a class (RFC 8489, section 5).
-/// See docs/DECISIONS.md, "Message types are enums".
+/// See docs/DESIGN.md, "Message types are enums".
 #[derive(Clone, Copy, Debug, PartialEq, Eq)]
 pub struct MessageType {
     pub method: Method,
@@ -206,7 +206,7 @@ pub mod family {
 }
 
 /// The error of an error response (RFC 8489, section 18.4; RFC 8656, section 19).
-/// See docs/DECISIONS.md, "Errors are an enum".
+/// See docs/DESIGN.md, "Errors are an enum".
 #[derive(Clone, Copy, Debug, PartialEq, Eq)]
 pub enum ErrorCode {
     BadRequest,

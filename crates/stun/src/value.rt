@@ -3,7 +3,7 @@
 ghost use Rattle.std.specs.Prelude.{◌≡◌, ℕ, List, length};
 
 /// The value of an attribute. It writes itself into the message, so that no copy of it is made first.
-/// See docs/DECISIONS.md, "Values write themselves".
+/// See docs/DESIGN.md, "Values write themselves".
 pub trait AttributeValue {
     /// The bytes of the value.
     ghost bytes: { Self → List ℕ };

@@ -3,7 +3,7 @@
 use attributes::{Addr, Family};
 
 /// An allocation of a client (RFC 8656, section 6).
-/// See docs/DECISIONS.md, "Rows end with their allocation".
+/// See docs/DESIGN.md, "Rows end with their allocation".
 #[derive(Clone, Copy, Debug, PartialEq, Eq)]
 pub struct Allocation {
     /// The slot whose relayed address it has.

@@ -21,7 +21,7 @@ pub const MAX_ALLOCATIONS: usize = 256;
 /// long as the moment is smaller than its end, and its allocation is live. All memory is allocated by [`Tables::new`].
 ///
 /// The model is the live rows at the greatest moment of the changes made. What is stored may have ended.
-/// See docs/DECISIONS.md, "The model of the tables".
+/// See docs/DESIGN.md, "The model of the tables".
 #[derive(Drop)]
 pub struct Tables {
     pub(crate) moment: u64,

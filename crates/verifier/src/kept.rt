@@ -60,7 +60,7 @@ impl<D: Domain> Model for States<D> {
 
 /// The states that the walk has kept, by slot: `None` at each slot that no jump leads to. The list ends at the last
 /// slot that one does.
-/// See docs/DECISIONS.md, "Covered states are skipped".
+/// See docs/DESIGN.md, "Covered states are skipped".
 #[derive(Drop)]
 pub struct KeptStates<D: Domain> {
     alloc: Global,

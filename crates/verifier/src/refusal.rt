@@ -8,7 +8,7 @@ use std::error::Error;
 use std::fmt;
 
 /// Why a program is refused, and at which slot. It prints the code and the slot, as `V10 at 6`.
-/// See docs/DECISIONS.md, "One type of refusals".
+/// See docs/DESIGN.md, "One type of refusals".
 #[derive(Clone, Copy, Debug, PartialEq, Eq)]
 pub enum Refusal {
     /// V1 to V16 and V18: the step at this slot could be stuck for this reason.

@@ -222,8 +222,8 @@ pub(crate) fn step<D: Domain>(
 /// Verifies a program, with what a numeric domain knows of its numbers: accepts it if no step of it, on any path, can
 /// be stuck. `steps` counts one for each abstract step, of which at most `budget` are made. A state that one kept at
 /// its slot covers takes no step: states are kept at the slots that jumps lead to.
-/// See docs/DECISIONS.md, "Refusals need a precise domain".
-/// See docs/DECISIONS.md, "Members are states that runs have".
+/// See docs/DESIGN.md, "Refusals need a precise domain".
+/// See docs/DESIGN.md, "Members are states that runs have".
 ///
 /// # Errors
 /// As [`verify`]; over a domain that isn't precise, a step may be refused at which no loose run is stuck.
