@@ -7,7 +7,7 @@ use Rattle.absstate.specs.Covers.{have_one_anchor, is_place, stands_for, share_a
 use Rattle.absstate.specs.laws.Step.Covering.{linked_at}
 use Rattle.absstate.specs.laws.Step.Links.{shared_back, shared_on}
 use Rattle.absstate.specs.laws.Step.MemoryValues.{both_true}
-use Rattle.absstate.specs.declared.abstract_state.Anchor.TheVariants.{First, Made}
+use Rattle.absstate.specs.declared.abstract_state.Anchor.TheVariants.{First, Variable}
 use Rattle.absstate.specs.declared.abstract_state.AbstractValue.{AbstractValue}
 use Rattle.absstate.specs.declared.abstract_state.AbstractValue.TheVariants.{Nothing, Data}
 

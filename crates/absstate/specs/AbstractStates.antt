@@ -11,7 +11,7 @@ use Rattle.semantics.specs.declared.limits.TheConstants.{STACK_BYTES, GROUP_BYTE
 use Rattle.absstate.specs.declared.abstract_state.AbstractValue.{AbstractValue}
 use Rattle.absstate.specs.declared.abstract_state.AbstractValue.TheVariants.{Nothing, Scalar, Ctx, Stack, Data, End}
 use Rattle.absstate.specs.declared.abstract_state.Anchor.{Anchor}
-use Rattle.absstate.specs.declared.abstract_state.Anchor.TheVariants.{First, Made}
+use Rattle.absstate.specs.declared.abstract_state.Anchor.TheVariants.{First, Variable}
 use Rattle.absstate.specs.declared.abstract_state.InitialisedBytes.{InitialisedBytes}
 use Rattle.absstate.specs.declared.abstract_state.AbsState.{AbsState}
 
@@ -74,28 +74,28 @@ first_abstract_state = record {
 -- the least and the greatest place of an anchor
 abbrev pub low_of : Anchor → ℤ
 low_of First = pos 0
-low_of (Made id low high proved) = low
+low_of (Variable id low high proved) = low
 
 abbrev pub high_of : Anchor → ℤ
 high_of First = pos 0
-high_of (Made id low high proved) = high
+high_of (Variable id low high proved) = high
 
 -- how far from an anchor on a datagram is proved to reach, whose first byte it is proved to have n bytes from on
 abbrev pub proved_from : Anchor → ℤ → ℤ
 proved_from First n = n
-proved_from (Made id low high proved) n = proved
+proved_from (Variable id low high proved) n = proved
 
 abbrev pub proved_of : {D : Type 0} → AbsState D → Anchor → ℤ
 proved_of a anchor = proved_from anchor a.proved
 
--- the number of the anchor that a value names; 0 where it names none that was made
+-- the number of the anchor that a value names; 0 where it names no variable anchor
 abbrev pub id_of : {D : Type 0} → AbstractValue D → ℕ
 id_of Nothing = 0
 id_of (Scalar number) = 0
 id_of Ctx = 0
 id_of (Stack k) = 0
 id_of (Data First k) = 0
-id_of (Data (Made id low high proved) k) = id
+id_of (Data (Variable id low high proved) k) = id
 id_of End = 0
 
 -- the greatest number of an anchor that a register or a group names
@@ -110,7 +110,7 @@ proved_up_to proved n = if (int_lt proved n && int_le n (pos 2147483647)) then n
 -- more is proved of the anchor with a number
 abbrev pub raised_anchor : ℕ → ℤ → Anchor → Anchor
 raised_anchor id n First = First
-raised_anchor id n (Made other low high proved) = Made other low high (if other == id then proved_up_to proved n else proved)
+raised_anchor id n (Variable other low high proved) = Variable other low high (if other == id then proved_up_to proved n else proved)
 
 -- more is proved of it in a value that names it
 abbrev pub raised_value : {D : Type 0} → ℕ → ℤ → AbstractValue D → AbstractValue D
@@ -132,7 +132,7 @@ with_length a n = record a { proved = if int_lt a.proved n then n else a.proved 
 -- the state in which the datagram reaches n bytes from an anchor on: every register with that anchor gains by it
 abbrev pub with_reach : {D : Type 0} → AbsState D → Anchor → ℤ → AbsState D
 with_reach a First n = with_length a n
-with_reach a (Made id low high proved) n = record a { values = map (raised_value id n) a.values }
+with_reach a (Variable id low high proved) n = record a { values = map (raised_value id n) a.values }
 
 -- a least reach, where a branch implies one
 abbrev pub with_least : {D : Type 0} → AbsState D → Anchor → Option ℤ → AbsState D

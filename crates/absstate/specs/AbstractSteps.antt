@@ -48,7 +48,7 @@ use Rattle.interval.specs.declared.domain.Test.{Test}
 use Rattle.interval.specs.declared.domain.Test.TheVariants.{Holds, Fails}
 use Rattle.absstate.specs.AbstractStates.{abstract_at, group_at, are_marked, low_of, high_of, proved_of, greatest_id, with_value, with_least, with_marks, abstract_with_pointer, with_answer, with_out}
 use Rattle.absstate.specs.declared.abstract_state.Anchor.{Anchor}
-use Rattle.absstate.specs.declared.abstract_state.Anchor.TheVariants.{First, Made}
+use Rattle.absstate.specs.declared.abstract_state.Anchor.TheVariants.{First, Variable}
 use Rattle.interval.specs.declared.domain.Bounds.{Bounds}
 use Rattle.insn.specs.declared.operator.AluOp.TheVariants.{Add, Sub}
 use Rattle.absstate.specs.declared.abstract_state.AbstractValue.{AbstractValue}
@@ -123,7 +123,7 @@ proved_within p = if int_lt p (negsuc 2097151) then negsuc 2097151 else if int_l
 
 -- an anchor of its own, with the next number that no register has
 abbrev pub made_anchor : {D : Type 0} → AbsState D → Anchor → ℤ → ℤ → Anchor
-made_anchor a anchor least greatest = Made (suc (greatest_id a.values)) least greatest (proved_within (proved_of a anchor -ℤ (greatest -ℤ high_of anchor)))
+made_anchor a anchor least greatest = Variable (suc (greatest_id a.values)) least greatest (proved_within (proved_of a anchor -ℤ (greatest -ℤ high_of anchor)))
 
 abbrev pub made_between : {D : Type 0} → AbsState D → Anchor → Bounds → ℤ → ℤ → Option (AbstractValue D)
 made_between a anchor b least greatest = if (is_one_sided b && int_le (pos (suc (greatest_id a.values))) (pos 4294967295)) then Some (Data (made_anchor a anchor least greatest) (pos 0)) else None
@@ -134,7 +134,7 @@ made_sum a anchor op w k b = with_both (lowest op w (low_of anchor +ℤ k) b) (h
 -- a single number moves the offset, any other one makes an anchor
 abbrev pub single_sum : Anchor → AluOp → Width → ℤ → ℕ → Option ℤ
 single_sum First op w k n = moved_place op w k n
-single_sum (Made id low high proved) op w k n = moved_offset op w low high k n
+single_sum (Variable id low high proved) op w k n = moved_offset op w low high k n
 
 abbrev pub data_sum : {D : Type 0} → AbsState D → Anchor → AluOp → Width → ℤ → Bounds → Option (AbstractValue D)
 data_sum a anchor op w k b = if b.lo == b.hi then option_map (Data anchor) (single_sum anchor op w k b.lo) else made_sum a anchor op w k b

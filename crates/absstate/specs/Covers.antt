@@ -3,7 +3,7 @@ use Rattle.std.specs.Prelude.{◌==◌, Bool, true, false, not, ◌&&◌, ◌||�
 use Rattle.interval.specs.Domains.{Operations}
 use Rattle.absstate.specs.AbstractStates.{low_of, high_of, proved_of}
 use Rattle.absstate.specs.declared.abstract_state.Anchor.{Anchor}
-use Rattle.absstate.specs.declared.abstract_state.Anchor.TheVariants.{First, Made}
+use Rattle.absstate.specs.declared.abstract_state.Anchor.TheVariants.{First, Variable}
 use Rattle.absstate.specs.declared.abstract_state.AbstractValue.{AbstractValue}
 use Rattle.absstate.specs.declared.abstract_state.AbstractValue.TheVariants.{Nothing, Scalar, Ctx, Stack, Data, End}
 use Rattle.absstate.specs.declared.abstract_state.AbsState.{AbsState}
@@ -14,9 +14,9 @@ same_int i j = int_le i j && int_le j i
 -- the same place, wherever it is
 abbrev pub same_anchor : Anchor → Anchor → Bool
 same_anchor First First = true
-same_anchor (Made id low high proved) (Made other low' high' proved') = id == other
-same_anchor First (Made other low' high' proved') = false
-same_anchor (Made id low high proved) First = false
+same_anchor (Variable id low high proved) (Variable other low' high' proved') = id == other
+same_anchor First (Variable other low' high' proved') = false
+same_anchor (Variable id low high proved) First = false
 
 -- an anchor with more places and no more that is proved
 abbrev pub covers_places : Anchor → Anchor → Bool

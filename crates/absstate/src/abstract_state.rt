@@ -17,9 +17,9 @@ use std::alloc::AllocError;
 pub enum Anchor {
     /// The datagram's first byte.
     First,
-    /// A place between two places, by a number of its own. The datagram is proved to reach `proved` bytes from there
-    /// on.
-    Made {
+    /// A place that varies between two places, by a number of its own. The datagram is proved to reach `proved` bytes
+    /// from there on.
+    Variable {
         id: u32,
         low: i32,
         high: i32,
@@ -63,7 +63,7 @@ impl Anchor {
     {
         match self {
             Anchor::First => 0,
-            Anchor::Made { low, .. } => low,
+            Anchor::Variable { low, .. } => low,
         }
     }
 
@@ -73,7 +73,7 @@ impl Anchor {
     {
         match self {
             Anchor::First => 0,
-            Anchor::Made { high, .. } => high,
+            Anchor::Variable { high, .. } => high,
         }
     }
 
@@ -83,17 +83,17 @@ impl Anchor {
     {
         match self {
             Anchor::First => proved,
-            Anchor::Made { proved, .. } => i64::from(proved),
+            Anchor::Variable { proved, .. } => i64::from(proved),
         }
     }
 
-    /// Returns the anchor with what is proved of it raised, if it was made with a number.
+    /// Returns the anchor with what is proved of it raised, if it is the variable one with a number.
     fn raised(self, raised: u32, least: i64) -> Anchor
         ensures { result ≡ raised_anchor raised least self }
     {
         match self {
             Anchor::First => Anchor::First,
-            Anchor::Made {
+            Anchor::Variable {
                 id,
                 low,
                 high,
@@ -104,7 +104,7 @@ impl Anchor {
                 } else {
                     proved
                 };
-                Anchor::Made {
+                Anchor::Variable {
                     id,
                     low,
                     high,
@@ -127,13 +127,13 @@ fn raise_proved(proved: i32, least: i64) -> i32
 }
 
 impl<D: Copy> AbstractValue<D> {
-    /// Returns the number of the anchor that it names; 0 where it names none that was made.
+    /// Returns the number of the anchor that it names; 0 where it names no variable anchor.
     fn id(self) -> u32
         ensures { result ≡ id_of self }
     {
         match self {
             AbstractValue::Data {
-                anchor: Anchor::Made { id, .. },
+                anchor: Anchor::Variable { id, .. },
                 ..
             } => id,
             _ => 0,
@@ -154,7 +154,7 @@ impl<D: Copy> AbstractValue<D> {
     }
 }
 
-/// Returns the greatest number of an anchor that values name; 0 where they name none that was made.
+/// Returns the greatest number of an anchor that values name; 0 where they name no variable anchor.
 fn greatest_id<D: Copy>(values: &[AbstractValue<D>]) -> u32
     ensures { result ≡ greatest_id values.now }
 {
@@ -401,7 +401,7 @@ impl<D: Copy> AbsState<D> {
         };
         match anchor {
             Anchor::First => self.set_length(least),
-            Anchor::Made { id, .. } => raise(&mut self.values, id, least),
+            Anchor::Variable { id, .. } => raise(&mut self.values, id, least),
         }
     }
 

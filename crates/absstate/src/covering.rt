@@ -21,7 +21,7 @@ fn same_anchor(a: Anchor, b: Anchor) -> bool
 {
     match (a, b) {
         (Anchor::First, Anchor::First) => true,
-        (Anchor::Made { id, .. }, Anchor::Made { id: other, .. }) => id == other,
+        (Anchor::Variable { id, .. }, Anchor::Variable { id: other, .. }) => id == other,
         _ => false,
     }
 }

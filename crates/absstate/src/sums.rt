@@ -142,7 +142,7 @@ fn made_anchor<D: Copy>(state: &AbsState<D>, anchor: Anchor, low: i32, high: i32
 {
     let id = state.greatest_id() + 1;
     let proved = proved_within(state.proved_of(anchor), moved_from(high, anchor.high()));
-    Anchor::Made {
+    Anchor::Variable {
         id,
         low,
         high,
@@ -193,7 +193,7 @@ fn single_sum(anchor: Anchor, operator: Operator, offset: i32, by: u64) -> Optio
 {
     match anchor {
         Anchor::First => near_sum(operator, i64::from(offset), by),
-        Anchor::Made { low, high, .. } => moved_offset(operator, low, high, offset, by),
+        Anchor::Variable { low, high, .. } => moved_offset(operator, low, high, offset, by),
     }
 }
 

@@ -14,7 +14,7 @@ use Rattle.absstate.specs.declared.abstract_state.AbsState.{AbsState}
 use Rattle.absstate.specs.declared.abstract_state.AbstractValue.{AbstractValue}
 use Rattle.absstate.specs.declared.abstract_state.AbstractValue.TheVariants.{Nothing, Data}
 use Rattle.absstate.specs.declared.abstract_state.Anchor.{Anchor}
-use Rattle.absstate.specs.declared.abstract_state.Anchor.TheVariants.{First, Made}
+use Rattle.absstate.specs.declared.abstract_state.Anchor.TheVariants.{First, Variable}
 
 -- ---- what is proved after the comparison
 
@@ -48,8 +48,8 @@ unfolding access_region
 helps a base displacement k e n First here ends low few =
     subst (λ (v : AbstractValue Interval). IsOk (access_region (with_least a First (Some e)) v displacement n)) (sym here)
     (inside displacement k e n ends First (with_least a First (Some e)).proved low (length_enough a.proved e (int_lt a.proved e) refl))
-helps a base displacement k e n (Made id least greatest proved) here ends low few =
-    let anchor : Anchor = Made id least greatest proved in
+helps a base displacement k e n (Variable id least greatest proved) here ends low few =
+    let anchor : Anchor = Variable id least greatest proved in
     let value : abstract_at (with_least a anchor (Some e)).values base ≡ Data (raised_anchor id e anchor) k = mapped (raised_value id e) a.values (number_of base) Nothing refl ∙ ap (raised_value id e) here in
     let known : proved_of (with_least a anchor (Some e)) (raised_anchor id e anchor) ≡ proved_up_to proved e = ap (λ (b : Bool). if b then proved_up_to proved e else proved) (eq-eqb id id refl) in
     subst (λ (v : AbstractValue Interval). IsOk (access_region (with_least a anchor (Some e)) v displacement n)) (sym value)

@@ -95,7 +95,7 @@ fn low_of(anchor: Anchor) -> i32
 {
     match anchor {
         Anchor::First => 0,
-        Anchor::Made { low, .. } => low,
+        Anchor::Variable { low, .. } => low,
     }
 }
 
@@ -105,7 +105,7 @@ fn high_of(anchor: Anchor) -> i32
 {
     match anchor {
         Anchor::First => 0,
-        Anchor::Made { high, .. } => high,
+        Anchor::Variable { high, .. } => high,
     }
 }
 
@@ -194,7 +194,7 @@ impl Access {
                 ..
             } => write!(note, "{verb} datagram{first} to {end}"),
             AbstractValue::Data {
-                anchor: Anchor::Made { low, high, .. },
+                anchor: Anchor::Variable { low, high, .. },
                 ..
             } => write!(note, "{verb} datagram+({low}..{high}){first} to {end}"),
             AbstractValue::End => write!(note, "{verb} end{first} to {end}"),
@@ -247,7 +247,7 @@ impl Access {
             AbstractValue::Data { anchor, .. } => {
                 let (low, proved) = match anchor {
                     Anchor::First => (0, state.proved),
-                    Anchor::Made { low, proved, .. } => (low, i64::from(proved)),
+                    Anchor::Variable { low, proved, .. } => (low, i64::from(proved)),
                 };
                 let headroom = HEADROOM_FIRST - i64::from(low);
                 if self.first(state) < headroom {

@@ -60,7 +60,7 @@ impl fmt::Display for DatagramPlace {
         let offset = Signed(i64::from(offset));
         match anchor {
             Anchor::First => write!(f, "datagram{offset}"),
-            Anchor::Made { low, high, .. } => write!(f, "datagram+({low}..{high}){offset}"),
+            Anchor::Variable { low, high, .. } => write!(f, "datagram+({low}..{high}){offset}"),
         }
     }
 }
@@ -89,7 +89,7 @@ impl fmt::Display for After {
     }
 }
 
-/// How many bytes are proved after a place at an anchor that was made.
+/// How many bytes are proved after a place at a variable anchor.
 #[derive(Clone, Copy)]
 struct Proved(DatagramPlace);
 
@@ -100,7 +100,7 @@ impl fmt::Display for Proved {
         let DatagramPlace { anchor, offset } = self.0;
         match anchor {
             Anchor::First => Ok(()),
-            Anchor::Made { proved, .. } => {
+            Anchor::Variable { proved, .. } => {
                 let after = After(bytes_after(proved, offset));
                 write!(f, "{after}")
             }

@@ -40,7 +40,7 @@ fn place_text(alloc: Global, index: usize) -> Result<String, AllocError> {
 /// its anchor, and how many bytes are proved from there on.
 fn value_text(alloc: Global, value: AbstractValue<Interval>) -> Result<String, AllocError> {
     let AbstractValue::Data {
-        anchor: Anchor::Made { id, proved, .. },
+        anchor: Anchor::Variable { id, proved, .. },
         ..
     } = value
     else {

@@ -24,7 +24,7 @@ use Rattle.absstate.specs.MemberSteps.{state_after}
 use Rattle.absstate.specs.laws.Step.MemoryValues.{abs_is}
 use Rattle.absstate.specs.laws.Step.Members.{at_first, first_member, loosens_itself, loosens_then, no_group}
 use Rattle.absstate.specs.StepReasons.{IsAboutPlaces}
-use Rattle.absstate.specs.laws.Step.Anchors.{NameNoMadeAnchor, greater_number, greater_left, greater_right, greater_least, reach_of, reach_of_plain, IsMade}
+use Rattle.absstate.specs.laws.Step.Anchors.{NameNoVariableAnchor, greater_number, greater_left, greater_right, greater_least, reach_of, reach_of_plain, IsVariable}
 use Rattle.absstate.specs.laws.Step.Following.{step_is}
 use Rattle.absstate.specs.laws.Step.Opening.{Opens, step_rises, step_opens}
 use Rattle.absstate.specs.laws.Step.Plainness.{step_plain}
@@ -64,7 +64,7 @@ equal_of a b p q = omega (arith, ints)
 
 -- ---- the first pending state
 
-first_plain : (D : Type 0) → NameNoMadeAnchor (first_abstract_state {D = D}).values
+first_plain : (D : Type 0) → NameNoVariableAnchor (first_abstract_state {D = D}).values
 first_plain D zero h = h
 first_plain D (suc zero) h = h
 first_plain D (suc (suc zero)) h = h
@@ -76,7 +76,7 @@ first_plain D (suc (suc (suc (suc (suc (suc (suc zero))))))) h = h
 first_plain D (suc (suc (suc (suc (suc (suc (suc (suc zero)))))))) h = h
 first_plain D (suc (suc (suc (suc (suc (suc (suc (suc (suc zero))))))))) h = h
 first_plain D (suc (suc (suc (suc (suc (suc (suc (suc (suc (suc zero)))))))))) h = h
-first_plain D (suc (suc (suc (suc (suc (suc (suc (suc (suc (suc (suc n))))))))))) h = subst IsMade (no_group D n) h
+first_plain D (suc (suc (suc (suc (suc (suc (suc (suc (suc (suc (suc n))))))))))) h = subst IsVariable (no_group D n) h
 
 zeros_fit : (n : ℕ) → All (λ b. b < 256) (replicate n 0)
 zeros_fit n = All-replicate (λ (b : ℕ). b < 256) n 0 (omega arith)
@@ -166,8 +166,8 @@ module _ {D : Type 0} (ops : Operations D) (Member : D → ℕ → Type 0) (soun
               (ap (λ (k : ℕ). branch_slot code k i branch) over.slot ∙ point.leads) long reaches);
           plain = λ sums.
               let before = reached.plain sums in
-              let plain_b : NameNoMadeAnchor b.values = step_plain ops Member sound precise here.state before.0 i fit (sums here.slot i begins) answer is branch b after in
-              let plain : NameNoMadeAnchor p.state.values = subst (λ (c : AbsState D). NameNoMadeAnchor c.values) (sym point.state_is) plain_b in
+              let plain_b : NameNoVariableAnchor b.values = step_plain ops Member sound precise here.state before.0 i fit (sums here.slot i begins) answer is branch b after in
+              let plain : NameNoVariableAnchor p.state.values = subst (λ (c : AbsState D). NameNoVariableAnchor c.values) (sym point.state_is) plain_b in
               let none : reach_of p.state.values ≡ pos 0 = reach_of_plain p.state.values plain in
               let low : reached.floor ≤ℤ p.state.proved = at_most reached.floor here.state.proved p.state.proved before.1 more in
               let higher_is : higher ≤ℤ p.state.proved = greater_least reached.floor p.state.proved p.state.proved low (equal_at_most p.state.proved p.state.proved refl) in
@@ -198,7 +198,7 @@ module _ {D : Type 0} (ops : Operations D) (Member : D → ℕ → Type 0) (soun
       let same : pos n ≡ reached.floor = abs_is reached.floor positive in
       let r = reached.over n (equal_at_most reached.floor (pos n) (sym same)) in
       let sums : IsAboutPlaces reason refusal.insn → HasNoSums code = claimed refusal.insn refusal.begins in
-      let plain : IsAboutPlaces reason refusal.insn → NameNoMadeAnchor here.state.values = λ about. (reached.plain (sums about)).0 in
+      let plain : IsAboutPlaces reason refusal.insn → NameNoVariableAnchor here.state.values = λ about. (reached.plain (sums about)).0 in
       let size : reason ≡ DatagramBounds → pos r.loosened.memory.length ≡ here.state.proved =
       λ e. ap (λ (k : ℕ). pos k) r.size ∙ same ∙ equal_of reached.floor here.state.proved (reached.plain (sums (subst (λ (x : Reason). IsAboutPlaces x refusal.insn) (sym e) tt))).1 reached.proved in
       let f = refusing.refusal_is_real ops Member sound precise r.member.places here.state r.loosened r.member.at refusal.insn refusal.fits reason refusal.step_is plain size in

@@ -9,7 +9,7 @@ use Rattle.semantics.specs.Runs.{Exited, run, IsPossible, IsSafe}
 use Rattle.semantics.specs.declared.limits.TheConstants.{MAX_DATAGRAM}
 use Rattle.semantics.specs.LooseRuns.{Loosens, LooselyReaches, path_prefixes_from}
 use Rattle.absstate.specs.Membership.{Loose, Strict, IsMember}
-use Rattle.absstate.specs.laws.Step.Anchors.{NameNoMadeAnchor, reach_of}
+use Rattle.absstate.specs.laws.Step.Anchors.{NameNoVariableAnchor, reach_of}
 use Rattle.verifier.specs.Refusing.{HasNoSums}
 use Rattle.verifier.specs.declared.walk.Pending.{Pending}
 
@@ -59,7 +59,7 @@ pub record IsReached {D : Type 0} (Member : D → ℕ → Type 0) (code : List I
   pub proved : p.state.proved ≤ℤ floor
   pub reach : reach_of p.state.values ≤ℤ floor
   pub over : (n : ℕ) → floor ≤ℤ pos n → IsReachedOver Member code p n
-  pub plain : HasNoSums code → NameNoMadeAnchor p.state.values × (floor ≤ℤ p.state.proved)
+  pub plain : HasNoSums code → NameNoVariableAnchor p.state.values × (floor ≤ℤ p.state.proved)
 
 -- ---- path prefixes
 

@@ -13,7 +13,7 @@ use Rattle.absstate.specs.AbstractSteps.{proved_within}
 use Rattle.absstate.specs.Membership.{Places, IsAnchorPlace}
 use Rattle.absstate.specs.declared.abstract_state.AbstractValue.{AbstractValue}
 use Rattle.absstate.specs.declared.abstract_state.AbstractValue.TheVariants.{Nothing, Data}
-use Rattle.absstate.specs.declared.abstract_state.Anchor.TheVariants.{Made}
+use Rattle.absstate.specs.declared.abstract_state.Anchor.TheVariants.{Variable}
 use Rattle.absstate.specs.laws.Step.Bounds.{lt_of, not_lt}
 
 -- ---- numbers of anchors
@@ -24,16 +24,16 @@ id_at_most [] n = omega arith
 id_at_most (v ∷ vs) zero = omega arith
 id_at_most (v ∷ vs) (suc n) = let rest = id_at_most vs n in omega (arith, rest)
 
--- ---- how far pointers at anchors that were made reach
+-- ---- how far pointers at variable anchors reach
 
--- a value that names an anchor that was made
-abbrev pub IsMade : {D : Type 0} → AbstractValue D → Type 0
-IsMade (Data (Made id low high proved) k) = Unit {0}
-IsMade _ = ⊥
+-- a value that names a variable anchor
+abbrev pub IsVariable : {D : Type 0} → AbstractValue D → Type 0
+IsVariable (Data (Variable id low high proved) k) = Unit {0}
+IsVariable _ = ⊥
 
 -- a datagram of that length extends past every place of the pointer, where its anchor was made
 abbrev pub reach_at : {D : Type 0} → AbstractValue D → ℤ
-reach_at (Data (Made id low high proved) k) = (high +ℤ k) +ℤ pos 1
+reach_at (Data (Variable id low high proved) k) = (high +ℤ k) +ℤ pos 1
 reach_at _ = pos 0
 
 abbrev pub greater_number : ℤ → ℤ → ℤ
@@ -70,15 +70,15 @@ reach_at_most [] n = omega (arith, ints)
 reach_at_most (v ∷ vs) zero = greater_right (reach_of vs) (reach_at v)
 reach_at_most (v ∷ vs) (suc n) = let rest = reach_at_most vs n in let more = greater_left (reach_of vs) (reach_at v) in omega (arith, ints, rest, more)
 
--- no register names an anchor that was made
-abbrev pub NameNoMadeAnchor : {D : Type 0} → List (AbstractValue D) → Type 0
-NameNoMadeAnchor registers = (n : ℕ) → IsMade (slice_index_or registers n Nothing) → ⊥
+-- no register names a variable anchor
+abbrev pub NameNoVariableAnchor : {D : Type 0} → List (AbstractValue D) → Type 0
+NameNoVariableAnchor registers = (n : ℕ) → IsVariable (slice_index_or registers n Nothing) → ⊥
 
-reach_plain : {D : Type 0} (v : AbstractValue D) → (IsMade v → ⊥) → reach_at v ≡ pos 0
-reach_plain (Data (Made id low high proved) k) plain = absurd (plain tt)
+reach_plain : {D : Type 0} (v : AbstractValue D) → (IsVariable v → ⊥) → reach_at v ≡ pos 0
+reach_plain (Data (Variable id low high proved) k) plain = absurd (plain tt)
 reach_plain v plain = refl
 
-pub reach_of_plain : {D : Type 0} (registers : List (AbstractValue D)) → NameNoMadeAnchor registers → reach_of registers ≡ pos 0
+pub reach_of_plain : {D : Type 0} (registers : List (AbstractValue D)) → NameNoVariableAnchor registers → reach_of registers ≡ pos 0
 reach_of_plain [] plain = refl
 reach_of_plain (v ∷ vs) plain =
     let first : reach_at v ≡ pos 0 = reach_plain v (plain 0) in

@@ -32,7 +32,7 @@ use Rattle.absstate.specs.declared.abstract_state.AbstractValue.{AbstractValue}
 use Rattle.absstate.specs.declared.abstract_state.AbstractValue.TheVariants as known
 use Rattle.absstate.specs.declared.abstract_state.AbsState.{AbsState}
 use Rattle.absstate.specs.laws.Step.Agreement.{Agree, refused_alike}
-use Rattle.absstate.specs.laws.Step.Anchors.{IsMade, Extends, extends_itself}
+use Rattle.absstate.specs.laws.Step.Anchors.{IsVariable, Extends, extends_itself}
 use Rattle.absstate.specs.laws.Step.Sums.{IsSum, data_is_sum, no_other}
 
 no_scalar : (n : ℕ) → value.Scalar n ≡ value.Nothing → ⊥
@@ -195,5 +195,5 @@ module _ {D : Type 0} (ops : Operations D) (Member : D → ℕ → Type 0) (soun
     pub registers : claimed UninitRegister → mode ≡ Strict
     pub cells : claimed UninitStack → mode ≡ Strict
     pub bounds : claimed DatagramBounds → pos s.memory.length ≡ a.proved
-    pub plain : claimed DatagramBounds → (r : Reg) → IsMade (abstract_at a.values r) → ⊥
+    pub plain : claimed DatagramBounds → (r : Reg) → IsVariable (abstract_at a.values r) → ⊥
     pub arithmetic : claimed PointerArithmetic → Strays a s i

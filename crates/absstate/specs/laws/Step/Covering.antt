@@ -15,7 +15,7 @@ use Rattle.semantics.specs.Access.{pointer_in}
 use Rattle.absstate.specs.Covers.{same_int, covers_anchor, covers_value, covers_values, have_one_anchor, stands_for, share_alike, covers_marks, covers}
 use Rattle.absstate.specs.Membership.{Loose, Strict, Places, place_of, IsAnchorPlace, IsAnchored, IsHeld, IsValue, IsMember}
 use Rattle.absstate.specs.declared.abstract_state.Anchor.{Anchor}
-use Rattle.absstate.specs.declared.abstract_state.Anchor.TheVariants.{First, Made}
+use Rattle.absstate.specs.declared.abstract_state.Anchor.TheVariants.{First, Variable}
 use Rattle.absstate.specs.declared.abstract_state.AbstractValue.{AbstractValue}
 use Rattle.absstate.specs.declared.abstract_state.AbstractValue.TheVariants as known
 use Rattle.absstate.specs.declared.abstract_state.AbsState.{AbsState}
@@ -27,7 +27,7 @@ use Rattle.absstate.specs.laws.Step.Sums.{place_is}
 
 -- whether a value names the anchor with a number
 abbrev names : {D : Type 0} → AbstractValue D → ℕ → Bool
-names (known.Data (Made other low high proved) k) id = other == id
+names (known.Data (Variable other low high proved) k) id = other == id
 names (known.Data First k) id = false
 names known.Nothing id = false
 names (known.Scalar n) id = false
@@ -52,11 +52,11 @@ places_for places [] us id = pos 0
 
 same_places : {D : Type 0} (places : Places) (u w : AbstractValue D) → have_one_anchor u w ≡ true → place_in places u ≡ place_in places w
 same_places places (known.Data First k) (known.Data First l) e = refl
-same_places places (known.Data (Made id low high proved) k) (known.Data (Made other low' high' proved') l) e = ap places (eqb-true id other e)
+same_places places (known.Data (Variable id low high proved) k) (known.Data (Variable other low' high' proved') l) e = ap places (eqb-true id other e)
 same_places places u w e = absurd cc
 
 named_shared : {D : Type 0} (id : ℕ) (u w : AbstractValue D) → names u id ≡ true → names w id ≡ true → have_one_anchor u w ≡ true
-named_shared id (known.Data (Made i low high proved) k) (known.Data (Made j low' high' proved') l) e f =
+named_shared id (known.Data (Variable i low high proved) k) (known.Data (Variable j low' high' proved') l) e f =
     let p : i ≡ id = eqb-true i id e in
     let q : j ≡ id = eqb-true j id f in
     let r : i ≡ j = p ∙ sym q in
@@ -130,8 +130,8 @@ module _ {D : Type 0} (ops : Operations D) (Member : D → ℕ → Type 0) (soun
       let at = anchor_covered First r e h.1 in
       let zero_place : place_of places r ≡ pos 0 = between_zero (place_of places r) at.least at.greatest in
       (0, tt, h.2 ∙ ap value.Data ((λ i. zero_place i +ℤ sym same i)))
-  data_covered (Made id low high proved) r k l v same e stands h =
-      let at = anchor_covered (Made id low high proved) r e h.1 in
+  data_covered (Variable id low high proved) r k l v same e stands h =
+      let at = anchor_covered (Variable id low high proved) r e h.1 in
       let to : more id ≡ place_of places r = stands id (itself id) in
       (0, subst (IsAnchorPlace size low high proved) (sym to) at, h.2 ∙ ap value.Data ((λ i. sym to i +ℤ sym same i))) where
         itself : (n : ℕ) → (n == n) ≡ true

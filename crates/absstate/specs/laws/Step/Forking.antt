@@ -36,7 +36,7 @@ use Rattle.absstate.specs.declared.abstract_state.AbsState.{AbsState}
 use Rattle.absstate.specs.declared.branching.Implied.{Implied}
 use Rattle.absstate.specs.declared.abstract_step.Next.TheVariants as next
 use Rattle.absstate.specs.declared.abstract_state.Anchor.{Anchor}
-use Rattle.absstate.specs.declared.abstract_state.Anchor.TheVariants.{First, Made}
+use Rattle.absstate.specs.declared.abstract_state.Anchor.TheVariants.{First, Variable}
 use Rattle.absstate.specs.laws.Step.Bounds.{bound_on_places, lt_of, not_lt, IsLeast, Implies, branch_if, least_from_bound, bound_from_least}
 use Rattle.absstate.specs.laws.Step.Members.{member_written, member_known, member_moved, member_least, members_loosen, loosens_itself}
 use Rattle.absstate.specs.laws.Step.Anchors.{reach_of, reach_positive}
@@ -140,7 +140,7 @@ module _ {D : Type 0} (ops : Operations D) (Member : D → ℕ → Type 0) (soun
   least_rises : (a : AbsState D) (anchor : Anchor) (least : Option ℤ) → a.proved ≤ℤ (with_least a anchor least).proved
   least_rises a anchor None = omega (arith, ints)
   least_rises a First (Some n) = proved_rises a.proved n (int_lt a.proved n) refl
-  least_rises a (Made id low high proved) (Some n) = omega (arith, ints)
+  least_rises a (Variable id low high proved) (Some n) = omega (arith, ints)
 
   operands_proved : (a : AbsState D) (dst : Reg) (o : Operand) (left : D × D) → a.proved ≤ℤ (abstract.with_operands a dst o left).proved
   operands_proved a dst (operand.Imm n) left = omega (arith, ints)

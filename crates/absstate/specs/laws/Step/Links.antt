@@ -14,7 +14,7 @@ use Rattle.absstate.specs.declared.abstract_state.AbsState.{AbsState}
 use Rattle.absstate.specs.declared.abstract_state.TheConstants.{VALUES}
 use Rattle.absstate.specs.declared.links.Links.{Links}
 use Rattle.interval.specs.Domains.{Operations}
-use Rattle.absstate.specs.declared.abstract_state.Anchor.TheVariants.{First, Made}
+use Rattle.absstate.specs.declared.abstract_state.Anchor.TheVariants.{First, Variable}
 use Rattle.absstate.specs.declared.abstract_state.AbstractValue.{AbstractValue}
 use Rattle.absstate.specs.declared.abstract_state.AbstractValue.TheVariants.{Nothing, Data}
 
@@ -22,12 +22,12 @@ use Rattle.absstate.specs.declared.abstract_state.AbstractValue.TheVariants.{Not
 
 pub shared_back : {D : Type 0} (v w : AbstractValue D) → have_one_anchor v w ≡ true → have_one_anchor w v ≡ true
 shared_back (Data First k) (Data First l) e = refl
-shared_back (Data (Made id low high proved) k) (Data (Made other low' high' proved') l) e = eq-eqb other id (sym (eqb-true id other e))
+shared_back (Data (Variable id low high proved) k) (Data (Variable other low' high' proved') l) e = eq-eqb other id (sym (eqb-true id other e))
 shared_back v w e = absurd cc
 
 pub shared_on : {D : Type 0} (v w x : AbstractValue D) → have_one_anchor v w ≡ true → have_one_anchor w x ≡ true → have_one_anchor v x ≡ true
 shared_on (Data First k) (Data First l) (Data First m) e f = refl
-shared_on (Data (Made i low high proved) k) (Data (Made j low' high' proved') l) (Data (Made n low'' high'' proved'') m) e f = eq-eqb i n (eqb-true i j e ∙ eqb-true j n f)
+shared_on (Data (Variable i low high proved) k) (Data (Variable j low' high' proved') l) (Data (Variable n low'' high'' proved'') m) e f = eq-eqb i n (eqb-true i j e ∙ eqb-true j n f)
 shared_on v w x e f = absurd cc
 
 -- ---- the first place at an anchor

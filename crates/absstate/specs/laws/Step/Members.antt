@@ -31,7 +31,7 @@ use Rattle.absstate.specs.AbstractStates.{abstract_at, group_at, group_index, wi
 use Rattle.absstate.specs.Membership.{Mode, Strict, Places, place_of, IsAnchorPlace, IsNumberOf, IsHeld, IsValue, IsMarkedCell, IsMemberAt, concrete_value}
 use Rattle.absstate.specs.AbstractSteps.{with_region}
 use Rattle.absstate.specs.declared.abstract_state.Anchor.{Anchor}
-use Rattle.absstate.specs.declared.abstract_state.Anchor.TheVariants.{First, Made}
+use Rattle.absstate.specs.declared.abstract_state.Anchor.TheVariants.{First, Variable}
 use Rattle.absstate.specs.declared.abstract_state.AbstractValue.{AbstractValue}
 use Rattle.absstate.specs.declared.abstract_state.AbstractValue.TheVariants as known
 use Rattle.absstate.specs.declared.abstract_state.AbsState.{AbsState}
@@ -68,7 +68,7 @@ moved_value Member mode greatest places more size (known.Scalar n) v extends le 
 moved_value Member mode greatest places more size known.Ctx v extends le h = h
 moved_value Member mode greatest places more size (known.Stack n) v extends le h = h
 moved_value Member mode greatest places more size (known.Data First n) v extends le h = h
-moved_value Member mode greatest places more size (known.Data (Made id low high proved) n) v extends le h =
+moved_value Member mode greatest places more size (known.Data (Variable id low high proved) n) v extends le h =
     (h.0, moved_anchored greatest places more size id low high proved extends le h.1, h.2 ∙ ap (λ (z : ℤ). value.Data (z +ℤ n)) (sym (extends id le)))
 moved_value Member mode greatest places more size known.End v extends le h = h
 
@@ -85,7 +85,7 @@ value_raised Member mode places size id z (known.Scalar x) v reach h = h
 value_raised Member mode places size id z known.Ctx v reach h = h
 value_raised Member mode places size id z (known.Stack x) v reach h = h
 value_raised Member mode places size id z (known.Data First x) v reach h = h
-value_raised Member mode places size id z (known.Data (Made other low high proved) x) v reach h = (h.0, raised_if other id (other == id) refl places size low high proved z reach h.1, h.2)
+value_raised Member mode places size id z (known.Data (Variable other low high proved) x) v reach h = (h.0, raised_if other id (other == id) refl places size low high proved z reach h.1, h.2)
 value_raised Member mode places size id z known.End v reach h = h
 
 cell_same : {mode : Mode} {b d : Bool} {c o : Option ℕ} → d ≡ b → o ≡ c → IsMarkedCell mode b c → IsMarkedCell mode d o
@@ -200,7 +200,7 @@ module _ {D : Type 0} (Member : D → ℕ → Type 0) (mode : Mode) (places : Pl
     cells = member.cells;
     tagged = memory_tagged s s.memory to s.plan member.tagged.memory member.tagged;
   }
-  member_reaching (Made id low high proved) z to le = record {
+  member_reaching (Variable id low high proved) z to le = record {
     reaches = member.reaches;
     known_count = length-map a.values (raised_value id z) ∙ member.known_count;
     marks_count = member.marks_count;

@@ -1,4 +1,4 @@
--- Interface. In code that adds and subtracts no two registers, on 64 bits, no register comes to name an anchor that was made.
+-- Interface. In code that adds and subtracts no two registers, on 64 bits, no register comes to name a variable anchor.
 use Rattle.std.proofs.Common.{◌≡◌, ℕ, zero, suc, ◌<◌, ◌^◌, Bool, true, false, ℤ, ◌+ℤ◌, ◌-ℤ◌, List, [], ◌∷◌, Option, Some, None, Result, Ok, Err, refl, sym, ap, subst, pos}
 use Rattle.std.specs.Prelude.{◌==◌, IfOk, slice_set, if◌then◌else◌}
 use Rattle.std.specs.Option.{ok_or, option_map}
@@ -46,7 +46,7 @@ use Rattle.absstate.specs.AbstractSteps as abstract
 use Rattle.absstate.specs.MemberSteps.{state_after}
 use Rattle.absstate.specs.StepReasons.{IsRegisterSum}
 use Rattle.absstate.specs.declared.abstract_state.Anchor.{Anchor}
-use Rattle.absstate.specs.declared.abstract_state.Anchor.TheVariants.{First, Made}
+use Rattle.absstate.specs.declared.abstract_state.Anchor.TheVariants.{First, Variable}
 use Rattle.absstate.specs.declared.abstract_state.AbstractValue.{AbstractValue}
 use Rattle.absstate.specs.declared.abstract_state.AbstractValue.TheVariants as known
 use Rattle.absstate.specs.declared.abstract_state.AbsState.{AbsState}
@@ -55,12 +55,12 @@ use Rattle.absstate.specs.declared.abstract_step.Next.TheVariants as next
 use Rattle.absstate.specs.declared.branching.Implied.{Implied}
 use Rattle.absstate.specs.declared.memory.Region.{Region}
 use Rattle.absstate.specs.declared.memory.Region.TheVariants as regions
-use Rattle.absstate.specs.laws.Step.Anchors.{IsMade, NameNoMadeAnchor}
+use Rattle.absstate.specs.laws.Step.Anchors.{IsVariable, NameNoVariableAnchor}
 use Rattle.absstate.specs.laws.Step.Refusing.{exact_sum}
 
 -- ---- lists of values
 
-pub plain_set : {D : Type 0} (registers : List (AbstractValue D)) → NameNoMadeAnchor registers → (n : ℕ) (v : AbstractValue D) → (IsMade v → ⊥) → NameNoMadeAnchor (slice_set registers n v)
+pub plain_set : {D : Type 0} (registers : List (AbstractValue D)) → NameNoVariableAnchor registers → (n : ℕ) (v : AbstractValue D) → (IsVariable v → ⊥) → NameNoVariableAnchor (slice_set registers n v)
 plain_set [] plain n v h k = plain k
 plain_set (x ∷ xs) plain zero v h zero = h
 plain_set (x ∷ xs) plain zero v h (suc k) = plain (suc k)
@@ -95,7 +95,7 @@ no_lowest o w k b bar = refl
 
 no_single : (anchor : Anchor) (o : AluOp) (w : Width) (k : ℤ) (n : ℕ) → (IsSumOf w o → ⊥) → abstract.single_sum anchor o w k n ≡ None
 no_single First o w k n bar = no_place o w k n bar
-no_single (Made id low high proved) o w k n bar = ap (λ (option : Option ℤ). abstract.with_both option (moved_place o w (high +ℤ k) n) (λ least greatest. abstract.short_offset (least -ℤ low))) (no_place o w (low +ℤ k) n bar)
+no_single (Variable id low high proved) o w k n bar = ap (λ (option : Option ℤ). abstract.with_both option (moved_place o w (high +ℤ k) n) (λ least greatest. abstract.short_offset (least -ℤ low))) (no_place o w (low +ℤ k) n bar)
 
 module _ {D : Type 0} where
   no_sum : (a : AbsState D) (anchor : Anchor) (o : AluOp) (w : Width) (k : ℤ) (b : Bounds) → (IsSumOf w o → ⊥) → abstract.data_sum a anchor o w k b ≡ None
@@ -108,7 +108,7 @@ module _ {D : Type 0} (ops : Operations D) (Member : D → ℕ → Type 0) (soun
   -- ---- values that are read
 
   abbrev Plain : AbstractValue D → Type 0
-  Plain v = IsMade v → ⊥
+  Plain v = IsVariable v → ⊥
 
   abbrev data_at : Anchor → ℤ → AbstractValue D
   data_at anchor k = known.Data anchor k
@@ -126,17 +126,17 @@ module _ {D : Type 0} (ops : Operations D) (Member : D → ℕ → Type 0) (soun
 
   -- the states after a step
   abbrev Stays : Next D → Type 0
-  Stays answer = (branch : Branch) (a : AbsState D) → state_after answer branch ≡ Some a → NameNoMadeAnchor a.values
+  Stays answer = (branch : Branch) (a : AbsState D) → state_after answer branch ≡ Some a → NameNoVariableAnchor a.values
 
   some_is : (a state : AbsState D) → ◌≡◌ {A = Option (AbsState D)} (Some a) (Some state) → a ≡ state
   some_is a state e = cc
 
-  on_stays : (a : AbsState D) → NameNoMadeAnchor a.values → Stays (next.On a)
-  on_stays a plain NotTaken c e = subst (λ (state : AbsState D). NameNoMadeAnchor state.values) (some_is a c e) plain
+  on_stays : (a : AbsState D) → NameNoVariableAnchor a.values → Stays (next.On a)
+  on_stays a plain NotTaken c e = subst (λ (state : AbsState D). NameNoVariableAnchor state.values) (some_is a c e) plain
   on_stays a plain Taken c e = absurd cc
 
   abbrev PlainBranch : Option (AbsState D) → Type 0
-  PlainBranch m = (a : AbsState D) → m ≡ Some a → NameNoMadeAnchor a.values
+  PlainBranch m = (a : AbsState D) → m ≡ Some a → NameNoVariableAnchor a.values
 
   fork_stays : (m option : Option (AbsState D)) → PlainBranch m → PlainBranch option → Stays (next.Fork m option)
   fork_stays m option l g NotTaken b e = l b e
@@ -145,8 +145,8 @@ module _ {D : Type 0} (ops : Operations D) (Member : D → ℕ → Type 0) (soun
   exit_stays : Stays next.Exit
   exit_stays branch b e = absurd cc
 
-  module _ (a : AbsState D) (plain : NameNoMadeAnchor a.values) where
-    with_plain : (r : Reg) (v : AbstractValue D) → Plain v → NameNoMadeAnchor (with_value a r v).values
+  module _ (a : AbsState D) (plain : NameNoVariableAnchor a.values) where
+    with_plain : (r : Reg) (v : AbstractValue D) → Plain v → NameNoVariableAnchor (with_value a r v).values
     with_plain r v h = plain_set a.values plain (number_of r) v h
 
     read_plain : (r : Reg) → IfOk (abstract.abstract_register_value a r) Plain
@@ -164,7 +164,7 @@ module _ {D : Type 0} (ops : Operations D) (Member : D → ℕ → Type 0) (soun
     mapped_plain : (anchor : Anchor) (k : ℤ) → Plain (data_at anchor k) → (option : Option ℤ) → IfOk (ok_or (option_map (data_at anchor) option) PointerArithmetic) Plain
     mapped_plain anchor k h None = tt
     mapped_plain First k h (Some z) = h
-    mapped_plain (Made id low high proved) k h (Some z) = h
+    mapped_plain (Variable id low high proved) k h (Some z) = h
 
     moved_plain : (option : Option ℤ) → IfOk (abstract.abstract_pointer_to stack_at option) Plain
     moved_plain None = tt
@@ -210,19 +210,19 @@ module _ {D : Type 0} (ops : Operations D) (Member : D → ℕ → Type 0) (soun
 
     -- ---- conditional jumps
 
-    kept_plain : (dst : Reg) (operand : Operand) (left : D × D) → NameNoMadeAnchor (abstract.with_operands a dst operand left).values
+    kept_plain : (dst : Reg) (operand : Operand) (left : D × D) → NameNoVariableAnchor (abstract.with_operands a dst operand left).values
     kept_plain dst (operand.Imm n) left = with_plain dst (known.Scalar left.0) (λ h. h)
     kept_plain dst (operand.Reg src) left =
-        cond_both (number_of dst == number_of src) a (with_value (with_value a dst (known.Scalar left.0)) src (known.Scalar left.1)) (λ b. NameNoMadeAnchor b.values) (λ e. plain)
+        cond_both (number_of dst == number_of src) a (with_value (with_value a dst (known.Scalar left.0)) src (known.Scalar left.1)) (λ b. NameNoVariableAnchor b.values) (λ e. plain)
         (λ e. plain_set (with_value a dst (known.Scalar left.0)).values (with_plain dst (known.Scalar left.0) (λ h. h)) (number_of src) (known.Scalar left.1) (λ h. h))
 
     refined_plain : (dst : Reg) (operand : Operand) (h : Option (D × D)) → PlainBranch (abstract.state_with_operands a dst operand h)
     refined_plain dst operand None b e = absurd cc
-    refined_plain dst operand (Some left) b e = subst (λ (state : AbsState D). NameNoMadeAnchor state.values) (some_is (abstract.with_operands a dst operand left) b e) (kept_plain dst operand left)
+    refined_plain dst operand (Some left) b e = subst (λ (state : AbsState D). NameNoVariableAnchor state.values) (some_is (abstract.with_operands a dst operand left) b e) (kept_plain dst operand left)
 
     least_plain : (least : Option ℤ) → PlainBranch (Some (with_least a First least))
-    least_plain None b e = subst (λ (state : AbsState D). NameNoMadeAnchor state.values) (some_is a b e) plain
-    least_plain (Some n) b e = subst (λ (state : AbsState D). NameNoMadeAnchor state.values) (some_is (with_least a First (Some n)) b e) plain
+    least_plain None b e = subst (λ (state : AbsState D). NameNoVariableAnchor state.values) (some_is a b e) plain
+    least_plain (Some n) b e = subst (λ (state : AbsState D). NameNoVariableAnchor state.values) (some_is (with_least a First (Some n)) b e) plain
 
     at_first : (result : Result Implied Reason) → IfOk (abstract.at_anchor First result >>= λ t. Ok (next.Fork (Some (with_least a t.0 t.1.not_taken)) (Some (with_least a t.0 t.1.taken)))) Stays
     at_first (Ok i) = fork_stays (Some (with_least a First i.not_taken)) (Some (with_least a First i.taken)) (least_plain i.not_taken) (least_plain i.taken)
@@ -231,9 +231,9 @@ module _ {D : Type 0} (ops : Operations D) (Member : D → ℕ → Type 0) (soun
     places_stay : (w : Width) (c : Condition) (x y : AbstractValue D) → Plain x → Plain y → IfOk (abstract.fork_of_places a w c x y) Stays
     places_stay w c (known.Scalar x) y p q = tt
     places_stay W64 c (known.Data First k) known.End p q = at_first (abstract.order_implication c (data_bound c k))
-    places_stay W64 c (known.Data (Made id low high proved) k) known.End p q = absurd (p tt)
+    places_stay W64 c (known.Data (Variable id low high proved) k) known.End p q = absurd (p tt)
     places_stay W64 c known.End (known.Data First k) p q = at_first (abstract.order_implication c (data_bound (converse c) k))
-    places_stay W64 c known.End (known.Data (Made id low high proved) k) p q = absurd (q tt)
+    places_stay W64 c known.End (known.Data (Variable id low high proved) k) p q = absurd (q tt)
     places_stay w c x y p q = tt
 
     fork_plain : (w : Width) (c : Condition) (dst : Reg) (operand : Operand) (x y : AbstractValue D) → Plain x → Plain y → IfOk (abstract.fork ops a w c dst operand x y) Stays
@@ -284,17 +284,17 @@ module _ {D : Type 0} (ops : Operations D) (Member : D → ℕ → Type 0) (soun
     loaded_stays : (loaded : AbstractValue D → Result (AbstractValue D) Reason) (dst base : Reg) → ((x : AbstractValue D) → IfOk (loaded x) Plain) → IfOk (abstract.loaded_step a loaded dst base) Stays
     loaded_stays loaded dst base h = every Stays (abstract.abstract_register_value a base) _ (λ x. written_stays dst (loaded x) (h x))
 
-    marks_plain : (state : AbsState D) → NameNoMadeAnchor state.values → (n i : ℕ) → NameNoMadeAnchor (without_groups state.values n i)
+    marks_plain : (state : AbsState D) → NameNoVariableAnchor state.values → (n i : ℕ) → NameNoVariableAnchor (without_groups state.values n i)
     marks_plain state h n i =
         let one = slice_set state.values (group_index (group_of i)) known.Nothing in
         let two = slice_set one (group_index (second_group n i)) known.Nothing in
         let three = slice_set two (group_index (third_group n i)) known.Nothing in
-        let first : NameNoMadeAnchor one = plain_set state.values h (group_index (group_of i)) known.Nothing (λ g. g) in
-        let second : NameNoMadeAnchor two = plain_set one first (group_index (second_group n i)) known.Nothing (λ g. g) in
-        let third : NameNoMadeAnchor three = plain_set two second (group_index (third_group n i)) known.Nothing (λ g. g) in
+        let first : NameNoVariableAnchor one = plain_set state.values h (group_index (group_of i)) known.Nothing (λ g. g) in
+        let second : NameNoVariableAnchor two = plain_set one first (group_index (second_group n i)) known.Nothing (λ g. g) in
+        let third : NameNoVariableAnchor three = plain_set two second (group_index (third_group n i)) known.Nothing (λ g. g) in
         plain_set three third (group_index (last_group n i)) known.Nothing (λ g. g)
 
-    region_plain : (n : ℕ) (region : Region) → NameNoMadeAnchor (abstract.with_region a n region).values
+    region_plain : (n : ℕ) (region : Region) → NameNoVariableAnchor (abstract.with_region a n region).values
     region_plain n (regions.InStack i) = marks_plain a plain n i
     region_plain n regions.InBytes = plain
 
@@ -327,7 +327,7 @@ module _ {D : Type 0} (ops : Operations D) (Member : D → ℕ → Type 0) (soun
 
     -- ---- calls
 
-    answer_plain : (x : D) → NameNoMadeAnchor (with_answer a x).values
+    answer_plain : (x : D) → NameNoVariableAnchor (with_answer a x).values
     answer_plain x =
         let p0 = with_plain reg.R0 (known.Scalar x) (λ h. h) in
         let p1 = plain_set _ p0 1 known.Nothing (λ h. h) in
@@ -336,7 +336,7 @@ module _ {D : Type 0} (ops : Operations D) (Member : D → ℕ → Type 0) (soun
         let p4 = plain_set _ p3 4 known.Nothing (λ h. h) in
         plain_set _ p4 5 known.Nothing (λ h. h)
 
-    out_plain : (x : D) (out : Option Room) → NameNoMadeAnchor (with_out (with_answer a x) out).values
+    out_plain : (x : D) (out : Option Room) → NameNoVariableAnchor (with_out (with_answer a x) out).values
     out_plain x None = answer_plain x
     out_plain x (Some room) = marks_plain (with_answer a x) (answer_plain x) (record_bytes room.form) room.index
 
@@ -370,5 +370,5 @@ module _ {D : Type 0} (ops : Operations D) (Member : D → ℕ → Type 0) (soun
     accepted (Err f) answer h e = absurd cc
 
     -- a step that adds bar register to another one
-    pub step_plain : (i : Insn) → Fits i → (IsRegisterSum i → ⊥) → (answer : Next D) → abstract.abstract_step ops a i ≡ Ok answer → (branch : Branch) (state : AbsState D) → state_after answer branch ≡ Some state → NameNoMadeAnchor state.values
+    pub step_plain : (i : Insn) → Fits i → (IsRegisterSum i → ⊥) → (answer : Next D) → abstract.abstract_step ops a i ≡ Ok answer → (branch : Branch) (state : AbsState D) → state_after answer branch ≡ Some state → NameNoVariableAnchor state.values
     step_plain i fit bar answer is = accepted (abstract.abstract_step ops a i) answer (stays i fit bar) is

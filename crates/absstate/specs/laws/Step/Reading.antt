@@ -37,14 +37,14 @@ use Rattle.interval.specs.Domains.{Operations, AreSound}
 use Rattle.absstate.specs.AbstractSteps as abstract
 use Rattle.absstate.specs.AbstractSteps.{access_region, readable, abstract_load_value}
 use Rattle.absstate.specs.Membership.{Mode, Places, IsNumberOf, IsHeld, IsMemberAt, concrete_value}
-use Rattle.absstate.specs.declared.abstract_state.Anchor.TheVariants.{First, Made}
+use Rattle.absstate.specs.declared.abstract_state.Anchor.TheVariants.{First, Variable}
 use Rattle.absstate.specs.declared.abstract_state.AbstractValue.{AbstractValue}
 use Rattle.absstate.specs.declared.abstract_state.AbstractValue.TheVariants as known
 use Rattle.absstate.specs.declared.abstract_state.AbsState.{AbsState}
 use Rattle.absstate.specs.laws.Step.Agreement.{Agree, and_then}
 use Rattle.absstate.specs.laws.Step.MemoryValues.{IsRegionOf, IsReadNumber, stack_located, datagram_located, tailroom_located, region_read, bytes_read, reads_alike}
 use Rattle.absstate.specs.laws.Step.Sums.{place_is}
-use Rattle.absstate.specs.laws.Step.Anchors.{IsMade}
+use Rattle.absstate.specs.laws.Step.Anchors.{IsVariable}
 use Rattle.absstate.specs.laws.Step.Arithmetic.{read_agrees, AreClaims}
 use Rattle.absstate.specs.laws.Step.Results.{IsResult, held_results, fields_agree}
 
@@ -75,7 +75,7 @@ IsRecord u address = AreBytes 20 address
 module _ {D : Type 0} (ops : Operations D) (Member : D → ℕ → Type 0) (sound : AreSound ops Member) (claimed : Reason → Type 0) (mode : Mode) (places : Places) (a : AbsState D) (s : State) (member : IsMemberAt Member mode places a s) (i : Insn) (claims : AreClaims ops Member sound claimed mode a s i) where
   -- ---- memory
 
-  pub locations_agree : (x : AbstractValue D) → (claimed DatagramBounds → IsMade x → ⊥) → (m : ℕ) (d : ℤ) (n : ℕ) → IsNumberOf Member places s.memory.length x m
+  pub locations_agree : (x : AbstractValue D) → (claimed DatagramBounds → IsVariable x → ⊥) → (m : ℕ) (d : ℤ) (n : ℕ) → IsNumberOf Member places s.memory.length x m
       → Agree claimed (IsRegionOf n) (abstract.access_region a x d n) (location s.memory.length (concrete_value places x m) d n)
   unfolding access_region
   locations_agree known.Nothing plain m d n h = λ c. refl
@@ -84,11 +84,11 @@ module _ {D : Type 0} (ops : Operations D) (Member : D → ℕ → Type 0) (soun
   locations_agree (known.Stack k) plain m d n h = stack_located claimed (k +ℤ d) n
   locations_agree (known.Data First k) plain m d n h =
       datagram_located claimed s.memory.length (pos 0) (pos 0) a.proved (pos 0) k d n (place_is places s.memory.length a First member.reaches h) (λ c. (refl, refl, claims.bounds c))
-  locations_agree (known.Data (Made id low high proved) k) plain m d n h =
+  locations_agree (known.Data (Variable id low high proved) k) plain m d n h =
       datagram_located claimed s.memory.length low high proved (places id) k d n h (λ c. absurd (plain c tt))
   locations_agree known.End plain m d n h = subst (λ (b : ℤ). Agree claimed (IsRegionOf n) (abstract.region_in_datagram b n (pos 0) (pos TAILROOM)) (location s.memory.length value.End d n)) (zero_more d) (tailroom_located claimed s.memory.length d n)
 
-  reads_agree : (x : AbstractValue D) → (claimed DatagramBounds → IsMade x → ⊥) → (m : ℕ) (d : ℤ) (n : ℕ) → IsNumberOf Member places s.memory.length x m
+  reads_agree : (x : AbstractValue D) → (claimed DatagramBounds → IsVariable x → ⊥) → (m : ℕ) (d : ℤ) (n : ℕ) → IsNumberOf Member places s.memory.length x m
       → Agree claimed (IsReadNumber n) (abstract.readable a x d n) (loading.reached_number s.memory (concrete_value places x m) d n)
   unfolding readable reached_number
   reads_agree x plain m d n h =
@@ -96,7 +96,7 @@ module _ {D : Type 0} (ops : Operations D) (Member : D → ℕ → Type 0) (soun
       (λ r at p q is. region_read Member claimed mode places a s member claims.cells n r at is)
 
   -- what is known of the number that is read has it as a member, extended or not
-  numbers_agree : (extend : ℕ → ℕ) (number : D) (x : AbstractValue D) → (claimed DatagramBounds → IsMade x → ⊥) → (m : ℕ) (d : ℤ) (n : ℕ) → ((k : ℕ) → k < 256 ^ n → Member number (extend k)) → IsNumberOf Member places s.memory.length x m
+  numbers_agree : (extend : ℕ → ℕ) (number : D) (x : AbstractValue D) → (claimed DatagramBounds → IsVariable x → ⊥) → (m : ℕ) (d : ℤ) (n : ℕ) → ((k : ℕ) → k < 256 ^ n → Member number (extend k)) → IsNumberOf Member places s.memory.length x m
       → Agree claimed (IsHeld Member places s.memory.length) (abstract.abstract_load_number a x d n number) (loading.reached_number s.memory (concrete_value places x m) d n >>= λ k. Ok (value.Scalar (extend k)))
   numbers_agree extend number x plain m d n is h =
       and_then claimed (IsReadNumber n) (IsHeld Member places s.memory.length) (abstract.readable a x d n) (loading.reached_number s.memory (concrete_value places x m) d n) _ _
@@ -105,7 +105,7 @@ module _ {D : Type 0} (ops : Operations D) (Member : D → ℕ → Type 0) (soun
   of_size : (z : Size) (k : ℕ) → k < 256 ^ byte_count z → Member (abstract.number_of_size ops z) k
   of_size z k small = sound.range 0 (256 ^ byte_count z - 1) k (size_fits z) (omega arith) (omega (arith, small))
 
-  value_agrees : (x : AbstractValue D) → (claimed DatagramBounds → IsMade x → ⊥) → (m : ℕ) (d : ℤ) (z : Size) → IsNumberOf Member places s.memory.length x m
+  value_agrees : (x : AbstractValue D) → (claimed DatagramBounds → IsVariable x → ⊥) → (m : ℕ) (d : ℤ) (z : Size) → IsNumberOf Member places s.memory.length x m
       → Agree claimed (IsResult Member places s.memory.length) (abstract.abstract_load_value ops a x d z) (loading.reached_value s.memory (concrete_value places x m) d z)
   unfolding abstract_load_value reached_value
   value_agrees x plain m d z h =
@@ -115,7 +115,7 @@ module _ {D : Type 0} (ops : Operations D) (Member : D → ℕ → Type 0) (soun
       z r at is (and_then claimed (IsReadNumber (byte_count z)) (IsHeld Member places s.memory.length) (abstract.region_readable a (byte_count z) r) (number_in s.memory (byte_count z) at) _ _
       (region_read Member claimed mode places a s member claims.cells (byte_count z) r at is) (λ u k p' q' small. (k, of_size z k small, refl)))))
 
-  pub load_agrees : (c : Context) → IsContext c → (x : AbstractValue D) → (claimed DatagramBounds → IsMade x → ⊥) → (m : ℕ) (d : ℤ) (z : Size) → IsNumberOf Member places s.memory.length x m
+  pub load_agrees : (c : Context) → IsContext c → (x : AbstractValue D) → (claimed DatagramBounds → IsVariable x → ⊥) → (m : ℕ) (d : ℤ) (z : Size) → IsNumberOf Member places s.memory.length x m
       → Agree claimed (IsResult Member places s.memory.length) (abstract.abstract_load ops a x d z) (loading.load c s.memory (concrete_value places x m) d z)
   load_agrees c real known.Ctx plain m d z h = fields_agree ops Member sound claimed places c real s.memory.length d z
   load_agrees c real known.Nothing plain m d z h = value_agrees known.Nothing plain m d z h
@@ -124,7 +124,7 @@ module _ {D : Type 0} (ops : Operations D) (Member : D → ℕ → Type 0) (soun
   load_agrees c real (known.Data anchor k) plain m d z h = value_agrees (known.Data anchor k) plain m d z h
   load_agrees c real known.End plain m d z h = value_agrees known.End plain m d z h
 
-  pub signed_agrees : (x : AbstractValue D) → (claimed DatagramBounds → IsMade x → ⊥) → (m : ℕ) (d : ℤ) (size : SignedSize) → IsNumberOf Member places s.memory.length x m
+  pub signed_agrees : (x : AbstractValue D) → (claimed DatagramBounds → IsVariable x → ⊥) → (m : ℕ) (d : ℤ) (size : SignedSize) → IsNumberOf Member places s.memory.length x m
       → Agree claimed (IsResult Member places s.memory.length) (abstract.abstract_load_signed ops a x d size) (loading.load_signed s.memory (concrete_value places x m) d size)
   signed_agrees x plain m d size h =
       held_results claimed Member places s.memory.length (abstract.abstract_load_signed ops a x d size) (loading.load_signed s.memory (concrete_value places x m) d size)

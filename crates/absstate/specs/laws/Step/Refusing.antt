@@ -37,7 +37,7 @@ use Rattle.absstate.specs.AbstractSteps as abstract
 use Rattle.absstate.specs.Membership.{Strict, Places, place_of, IsHeld, IsValue, IsMemberAt}
 use Rattle.absstate.specs.StepReasons.{IsAboutPlaces, IsConstantSum}
 use Rattle.absstate.specs.declared.abstract_state.Anchor.{Anchor}
-use Rattle.absstate.specs.declared.abstract_state.Anchor.TheVariants.{First, Made}
+use Rattle.absstate.specs.declared.abstract_state.Anchor.TheVariants.{First, Variable}
 use Rattle.absstate.specs.declared.abstract_state.AbstractValue.{AbstractValue}
 use Rattle.absstate.specs.declared.abstract_state.AbstractValue.TheVariants as known
 use Rattle.absstate.specs.declared.abstract_state.AbsState.{AbsState}
@@ -46,7 +46,7 @@ use Rattle.absstate.specs.laws.Step.Agreement.{Agree}
 use Rattle.absstate.specs.laws.Step.Bounds.{le_of}
 use Rattle.absstate.specs.laws.Step.MemoryValues.{first_of_and, rest_of_and}
 use Rattle.absstate.specs.laws.Step.Members.{loosens_itself}
-use Rattle.absstate.specs.laws.Step.Anchors.{IsMade, NameNoMadeAnchor}
+use Rattle.absstate.specs.laws.Step.Anchors.{IsVariable, NameNoVariableAnchor}
 use Rattle.absstate.specs.laws.Step.Arithmetic.{StraysBy, Strays, strays_same, held_is, held_known, ok_is, AreClaims}
 use Rattle.absstate.specs.laws.Step.Forking.{replaced}
 use Rattle.absstate.specs.laws.Step.Simulation.{IsEffectOf, steps_agree}
@@ -151,7 +151,7 @@ module _ {D : Type 0} (ops : Operations D) (Member : D → ℕ → Type 0) (soun
   refused_alike (Err f) reason e = cc
 
   module _ (places : Places) (a : AbsState D) (s : State) (member : IsMemberAt Member Strict places a s) (reason : Reason)
-      (bounds : reason ≡ DatagramBounds → (pos s.memory.length ≡ a.proved) × NameNoMadeAnchor a.values) where
+      (bounds : reason ≡ DatagramBounds → (pos s.memory.length ≡ a.proved) × NameNoVariableAnchor a.values) where
     -- the member itself
     stuck_itself : (i : Insn) → Fits i → abstract.abstract_step ops a i ≡ Err reason → (reason ≡ PointerArithmetic → Strays ops Member sound a s i) → IsStuckFrom s i reason
     stuck_itself i fit is strays =
@@ -186,21 +186,21 @@ module _ {D : Type 0} (ops : Operations D) (Member : D → ℕ → Type 0) (soun
         imm_none : (z : ℤ) (u : Value) → u ≡ value.Data z → moved_place op w z n ≡ None → effects.alu_result op w u (value.Scalar n) ≡ Err PointerArithmetic
         imm_none z u is none = ap (λ (v : Value). effects.alu_result op w v (value.Scalar n)) is ∙ ap (effects.pointer_to value.Data) none
 
-        imm_by : (x : AbstractValue D) (u : Value) → (IsMade x → ⊥) ⊎ ((k : ℤ) (m : ℕ) → moved_place op w k m ≡ None) → IsValue Member Strict places s.memory.length x u → StraysBy ops Member sound a op w x (known.Scalar (ops.exact n)) u (value.Scalar n)
+        imm_by : (x : AbstractValue D) (u : Value) → (IsVariable x → ⊥) ⊎ ((k : ℤ) (m : ℕ) → moved_place op w k m ≡ None) → IsValue Member Strict places s.memory.length x u → StraysBy ops Member sound a op w x (known.Scalar (ops.exact n)) u (value.Scalar n)
         imm_by (known.Data First k) u plain h = imm_first k u h.2
-        imm_by (known.Data (Made id low high proved) k) u (inl plain) h = absurd (plain tt)
-        imm_by (known.Data (Made id low high proved) k) u (inr none) h = λ refused. imm_none (place_of places (Made id low high proved) +ℤ k) u h.2 (none (place_of places (Made id low high proved) +ℤ k) n)
+        imm_by (known.Data (Variable id low high proved) k) u (inl plain) h = absurd (plain tt)
+        imm_by (known.Data (Variable id low high proved) k) u (inr none) h = λ refused. imm_none (place_of places (Variable id low high proved) +ℤ k) u h.2 (none (place_of places (Variable id low high proved) +ℤ k) n)
         imm_by (known.Stack k) u plain h = imm_stack k u
         imm_by x u plain h = tt
 
       scalar_is : (m : ℕ) (v : Value) → ◌≡◌ {A = Result Value Reason} (Ok (value.Scalar m)) (Ok v) → value.Scalar m ≡ v
       scalar_is m v e = cc
 
-      imm_strays : (z : ℤ) → OperandFits (operand.Imm z) → (IsConstantSum (insn.Alu w op dst (operand.Imm z)) → NameNoMadeAnchor a.values) → Strays ops Member sound a s (insn.Alu w op dst (operand.Imm z))
+      imm_strays : (z : ℤ) → OperandFits (operand.Imm z) → (IsConstantSum (insn.Alu w op dst (operand.Imm z)) → NameNoVariableAnchor a.values) → Strays ops Member sound a s (insn.Alu w op dst (operand.Imm z))
       imm_strays z fit plain x y u v p p' q q' =
           strays_same ops Member sound a op w (abstract_at a.values dst) x (known.Scalar (ops.exact (imm_word w z))) y (effects.value_at s.registers dst) u (value.Scalar (imm_word w z)) v
           (held_known ops Member sound (abstract_at a.values dst) x p) (ok_is ops Member sound (known.Scalar (ops.exact (imm_word w z))) y p') (held_is (effects.value_at s.registers dst) u q) (scalar_is (imm_word w z) v q')
-          (imm_by (imm_word w z) (imm_below w z fit) (abstract_at a.values dst) (effects.value_at s.registers dst) (moves_or_not op w dst z (IsMade (abstract_at a.values dst) → ⊥) (λ sums. plain sums (number_of dst))) (member.registers dst))
+          (imm_by (imm_word w z) (imm_below w z fit) (abstract_at a.values dst) (effects.value_at s.registers dst) (moves_or_not op w dst z (IsVariable (abstract_at a.values dst) → ⊥) (λ sums. plain sums (number_of dst))) (member.registers dst))
 
       -- ---- a sum with a register
 
@@ -263,15 +263,15 @@ module _ {D : Type 0} (ops : Operations D) (Member : D → ℕ → Type 0) (soun
         sum_stuck (known.Stack k) (known.Scalar y) p q fit is = stack_stuck k y (abstract.single_of ops y) refl p q fit is
         sum_stuck x y p q fit is = no_stray x y p q fit (λ u v. tt) is
 
-    stuck_from : (i : Insn) → Fits i → abstract.abstract_step ops a i ≡ Err reason → (IsAboutPlaces reason i → NameNoMadeAnchor a.values) → IsStuckFrom s i reason
+    stuck_from : (i : Insn) → Fits i → abstract.abstract_step ops a i ≡ Err reason → (IsAboutPlaces reason i → NameNoVariableAnchor a.values) → IsStuckFrom s i reason
     unfolding sum
     stuck_from (insn.Alu w op dst (operand.Reg r)) fit is plain = sum_stuck w op dst r (abstract_at a.values dst) (abstract_at a.values r) refl refl fit is
     stuck_from (insn.Alu w op dst (operand.Imm n)) fit is plain = stuck_itself (insn.Alu w op dst (operand.Imm n)) fit is (λ e. imm_strays w op dst n fit (λ sums. plain (subst (λ (r : Reason). IsAboutPlaces r (insn.Alu w op dst (operand.Imm n))) (sym e) sums)))
     stuck_from i fit is plain = stuck_itself i fit is (λ e. tt)
 
   -- The machine is stuck at a loosening of a strict member. Where a bound of the datagram is the reason, the datagram has no
-  -- more bytes than are proved, and no register names an anchor that was made; where a constant is added to a pointer, no
+  -- more bytes than are proved, and no register names a variable anchor; where a constant is added to a pointer, no
   -- register does either.
   pub refusal_is_real : (places : Places) (a : AbsState D) (s : State) → IsMemberAt Member Strict places a s → (i : Insn) → Fits i → (reason : Reason) → abstract.abstract_step ops a i ≡ Err reason
-      → (IsAboutPlaces reason i → NameNoMadeAnchor a.values) → (reason ≡ DatagramBounds → pos s.memory.length ≡ a.proved) → IsStuckFrom s i reason
+      → (IsAboutPlaces reason i → NameNoVariableAnchor a.values) → (reason ≡ DatagramBounds → pos s.memory.length ≡ a.proved) → IsStuckFrom s i reason
   refusal_is_real places a s member i fit reason is plain size = stuck_from places a s member reason (λ e. (size e, plain (subst (λ (r : Reason). IsAboutPlaces r i) (sym e) tt))) i fit is plain

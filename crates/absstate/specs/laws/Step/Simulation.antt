@@ -54,7 +54,7 @@ use Rattle.absstate.specs.AbstractSteps as abstract
 use Rattle.absstate.specs.AbstractSteps.{access_region}
 use Rattle.absstate.specs.Membership.{Mode, Places, IsNumberOf, IsHeld, IsMemberAt, IsAnchorPlace, IsAnchored, place_of, concrete_value}
 use Rattle.absstate.specs.declared.abstract_state.Anchor.{Anchor}
-use Rattle.absstate.specs.declared.abstract_state.Anchor.TheVariants.{First, Made}
+use Rattle.absstate.specs.declared.abstract_state.Anchor.TheVariants.{First, Variable}
 use Rattle.absstate.specs.laws.Step.Anchors.{Extends, extends_itself}
 use Rattle.absstate.specs.declared.abstract_state.AbstractValue.{AbstractValue}
 use Rattle.absstate.specs.declared.abstract_state.AbstractValue.TheVariants as known
@@ -65,7 +65,7 @@ use Rattle.absstate.specs.declared.abstract_step.Next.TheVariants as next
 use Rattle.absstate.specs.laws.Step.Agreement.{Agree, and_then, same_test}
 use Rattle.absstate.specs.laws.Step.Bounds.{Implies, IsLeast, IsNearBound, near_bound, bound_on_places, data_shifts, branch_if, first_agree, second_agree}
 use Rattle.absstate.specs.laws.Step.MemoryValues.{IsRegionOf}
-use Rattle.absstate.specs.laws.Step.Anchors.{IsMade, reach_at, reach_of, reach_positive, reach_at_most}
+use Rattle.absstate.specs.laws.Step.Anchors.{IsVariable, reach_at, reach_of, reach_positive, reach_at_most}
 use Rattle.absstate.specs.laws.Step.Arithmetic.{IsHeldAnew, held_is, held_known, ok_is, read_agrees, operand_agrees, StraysBy, result_held, unary_held, AreClaims}
 use Rattle.absstate.specs.laws.Step.Forking.{Forks, fork_by, forked, length_within}
 use Rattle.absstate.specs.laws.Step.Reading.{IsGiven, locations_agree, load_agrees, signed_agrees, inputs_agree}
@@ -197,7 +197,7 @@ module _ {D : Type 0} (ops : Operations D) (Member : D → ℕ → Type 0) (soun
 
     bound_enough : (anchor : Anchor) (k : ℤ) (b : Option Bound) → IsNearBound k b → IsAnchored places s.memory.length anchor → (with_least a anchor (abstract.least_of b)).proved ≤ℤ pos s.memory.length → extra_of anchor k ≤ℤ pos s.memory.length → IsLeast (place_of places anchor) (abstract.least_of b) s.memory.length
     bound_enough First k b near is le le' = length_within ops Member sound a (abstract.least_of b) s.memory.length le
-    bound_enough (Made id low high proved) k b near is le le' = made_enough id low high proved k b near is le'
+    bound_enough (Variable id low high proved) k b near is le le' = made_enough id low high proved k b near is le'
 
     implies_shifted : (bound real : Branch → Option Bound) (place : ℤ) (t : Implied) (taken : Bool) → ((way : Branch) → real way ≡ bound_on_places place (bound way)) → Implies bound real s.memory.length t taken → Implies bound (λ way. bound_on_places place (bound way)) s.memory.length t taken
     implies_shifted bound real place t taken is f = (f.0, subst (λ (b : Option Bound). HoldsOf b s.memory.length) (is (branch_if taken)) f.1)
@@ -237,11 +237,11 @@ module _ {D : Type 0} (ops : Operations D) (Member : D → ℕ → Type 0) (soun
         (operand_agrees ops Member sound claimed mode places claims.registers a s member w o fit)
         (λ y v p' q' held_y. fork_held w condition dst o offset x y u v (read_within dst x p) (operand_within w o y p') held_x held_y q q'))
 
-    plain_at : (i : Insn) → Claims i → (reg : Reg) (x : AbstractValue D) → abstract.abstract_register_value a reg ≡ Ok x → claimed DatagramBounds → IsMade x → ⊥
-    plain_at i claims reg x p c is = claims.plain c reg (subst IsMade (sym (held_known ops Member sound (abstract_at a.values reg) x p)) is)
+    plain_at : (i : Insn) → Claims i → (reg : Reg) (x : AbstractValue D) → abstract.abstract_register_value a reg ≡ Ok x → claimed DatagramBounds → IsVariable x → ⊥
+    plain_at i claims reg x p c is = claims.plain c reg (subst IsVariable (sym (held_known ops Member sound (abstract_at a.values reg) x p)) is)
 
     loads_agree : (i : Insn) (known_of : AbstractValue D → Result (AbstractValue D) Reason) (loaded : Value → Result Value Reason) (dst base : Reg) → GoesPast i → Claims i
-        → ((x : AbstractValue D) → (claimed DatagramBounds → IsMade x → ⊥) → (m : ℕ) → IsNumberOf Member places s.memory.length x m → Agree claimed (IsResult Member places s.memory.length) (known_of x) (loaded (concrete_value places x m)))
+        → ((x : AbstractValue D) → (claimed DatagramBounds → IsVariable x → ⊥) → (m : ℕ) → IsNumberOf Member places s.memory.length x m → Agree claimed (IsResult Member places s.memory.length) (known_of x) (loaded (concrete_value places x m)))
         → Agree claimed (IsEffectOf mode places a s i) (abstract.loaded_step a known_of dst base) (effects.loaded_effect s.registers loaded dst base)
     loads_agree i known_of loaded dst base past claims agree =
         and_then claimed (IsHeld Member places s.memory.length) (IsEffectOf mode places a s i) (abstract.abstract_register_value a base) (effects.register_value s.registers base) _ _
@@ -268,7 +268,7 @@ module _ {D : Type 0} (ops : Operations D) (Member : D → ℕ → Type 0) (soun
           pointers_agree known.End m h = tt
 
           -- a number is stored
-          numbers_agree : (z : Size) (base : Reg) (o : Operand) (d : ℤ) → Claims (insn.Store z base o d) → (x : AbstractValue D) → (claimed DatagramBounds → IsMade x → ⊥) → (m n : ℕ) → IsNumberOf Member places s.memory.length x m
+          numbers_agree : (z : Size) (base : Reg) (o : Operand) (d : ℤ) → Claims (insn.Store z base o d) → (x : AbstractValue D) → (claimed DatagramBounds → IsVariable x → ⊥) → (m n : ℕ) → IsNumberOf Member places s.memory.length x m
               → Agree claimed (IsEffectOf mode places a s (insn.Store z base o d)) (abstract.abstract_store_number a x d z) (effects.store_number s.memory.length (concrete_value places x m) d z n)
           numbers_agree z base o d claims x plain m n h =
               and_then claimed (IsRegionOf (byte_count z)) (IsEffectOf mode places a s (insn.Store z base o d)) (abstract.access_region a x d (byte_count z)) (location s.memory.length (concrete_value places x m) d (byte_count z)) _ _
@@ -295,7 +295,7 @@ module _ {D : Type 0} (ops : Operations D) (Member : D → ℕ → Type 0) (soun
           pointers_stored z base o d (known.Data anchor k) m h y v held = λ c. refl
           pointers_stored z base o d known.End m h y v held = λ c. refl
 
-          values_agree : (z : Size) (base : Reg) (o : Operand) (d : ℤ) → Claims (insn.Store z base o d) → (x : AbstractValue D) → (claimed DatagramBounds → IsMade x → ⊥) → (m : ℕ) → IsNumberOf Member places s.memory.length x m → (y : AbstractValue D) (j : ℕ) → IsNumberOf Member places s.memory.length y j
+          values_agree : (z : Size) (base : Reg) (o : Operand) (d : ℤ) → Claims (insn.Store z base o d) → (x : AbstractValue D) → (claimed DatagramBounds → IsVariable x → ⊥) → (m : ℕ) → IsNumberOf Member places s.memory.length x m → (y : AbstractValue D) (j : ℕ) → IsNumberOf Member places s.memory.length y j
               → Agree claimed (IsEffectOf mode places a s (insn.Store z base o d)) (abstract.store_known a x d z y) (effects.store_value s.memory.length (concrete_value places x m) d z (concrete_value places y j))
           values_agree z base o d claims x plain m h (known.Scalar number) j g = numbers_agree z base o d claims x plain m j h
           values_agree z base o d claims x plain m h known.Nothing j g = absurd g
@@ -304,13 +304,13 @@ module _ {D : Type 0} (ops : Operations D) (Member : D → ℕ → Type 0) (soun
           values_agree z base o d claims x plain m h (known.Data anchor k) j g = pointers_stored z base o d x m h (known.Data anchor k) (value.Data (place_of places anchor +ℤ k)) (j, g, refl)
           values_agree z base o d claims x plain m h known.End j g = pointers_stored z base o d x m h known.End value.End (j, g, refl)
 
-          store_numbers : (z : Size) (base : Reg) (o : Operand) (d : ℤ) → Claims (insn.Store z base o d) → (x : AbstractValue D) → (claimed DatagramBounds → IsMade x → ⊥) → (y : AbstractValue D) (m j : ℕ) → IsNumberOf Member places s.memory.length x m → IsNumberOf Member places s.memory.length y j
+          store_numbers : (z : Size) (base : Reg) (o : Operand) (d : ℤ) → Claims (insn.Store z base o d) → (x : AbstractValue D) → (claimed DatagramBounds → IsVariable x → ⊥) → (y : AbstractValue D) (m j : ℕ) → IsNumberOf Member places s.memory.length x m → IsNumberOf Member places s.memory.length y j
               → Agree claimed (IsEffectOf mode places a s (insn.Store z base o d)) (abstract.abstract_pointer x >>= λ u. abstract.store_known a x d z y) (effects.pointer (concrete_value places x m) >>= λ u. effects.store_value s.memory.length (concrete_value places x m) d z (concrete_value places y j))
           store_numbers z base o d claims x plain y m j h g =
               and_then claimed (λ u v. Unit {0}) (IsEffectOf mode places a s (insn.Store z base o d)) (abstract.abstract_pointer x) (effects.pointer (concrete_value places x m)) _ _ (pointers_agree x m h)
               (λ u u' p q t. values_agree z base o d claims x plain m h y j g)
 
-          store_held : (z : Size) (base : Reg) (o : Operand) (d : ℤ) → Claims (insn.Store z base o d) → (x : AbstractValue D) → (claimed DatagramBounds → IsMade x → ⊥) → (y : AbstractValue D) (u v : Value) → IsHeld Member places s.memory.length x u → IsHeld Member places s.memory.length y v
+          store_held : (z : Size) (base : Reg) (o : Operand) (d : ℤ) → Claims (insn.Store z base o d) → (x : AbstractValue D) → (claimed DatagramBounds → IsVariable x → ⊥) → (y : AbstractValue D) (u v : Value) → IsHeld Member places s.memory.length x u → IsHeld Member places s.memory.length y v
               → Agree claimed (IsEffectOf mode places a s (insn.Store z base o d)) (abstract.abstract_pointer x >>= λ t. abstract.store_known a x d z y) (effects.pointer u >>= λ t. effects.store_value s.memory.length u d z v)
           store_held z base o d claims x plain y u v hx hy =
               subst (λ (u' : Value). Agree claimed (IsEffectOf mode places a s (insn.Store z base o d)) (abstract.abstract_pointer x >>= λ t. abstract.store_known a x d z y) (effects.pointer u' >>= λ t. effects.store_value s.memory.length u' d z v)) (sym hx.2)

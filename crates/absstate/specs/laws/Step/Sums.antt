@@ -17,7 +17,7 @@ use Rattle.absstate.specs.AbstractStates.{low_of, high_of, proved_of, greatest_i
 use Rattle.absstate.specs.AbstractSteps.{with_both, short_offset, moved_offset, lowest, highest, is_one_sided, proved_within, made_anchor, made_sum, data_sum}
 use Rattle.absstate.specs.Membership.{Places, place_of, IsAnchorPlace, IsAnchored}
 use Rattle.absstate.specs.declared.abstract_state.Anchor.{Anchor}
-use Rattle.absstate.specs.declared.abstract_state.Anchor.TheVariants.{First, Made}
+use Rattle.absstate.specs.declared.abstract_state.Anchor.TheVariants.{First, Variable}
 use Rattle.absstate.specs.declared.abstract_state.AbstractValue.{AbstractValue}
 use Rattle.absstate.specs.declared.abstract_state.AbstractValue.TheVariants.{Data}
 use Rattle.absstate.specs.declared.abstract_state.AbsState.{AbsState}
@@ -124,7 +124,7 @@ pub record IsSum {D : Type 0} (places : Places) (size : ℕ) (a : AbsState D) (o
 -- the place of an anchor lies in its interval, and the datagram reaches as far as is proved
 pub place_is : {D : Type 0} (places : Places) (size : ℕ) (a : AbsState D) (anchor : Anchor) → a.proved ≤ℤ pos size → IsAnchored places size anchor → IsAnchorPlace size (low_of anchor) (high_of anchor) (proved_of a anchor) (place_of places anchor)
 place_is places size a First reaches is = record { least = omega (arith, ints); greatest = omega (arith, ints); reaches = omega (arith, ints, reaches) }
-place_is places size a (Made id low high proved) reaches is = is
+place_is places size a (Variable id low high proved) reaches is = is
 
 with_both_some : {A : Type 0} (o option : Option ℤ) (i : ℤ → ℤ → Option A) (r : A) → with_both o option i ≡ Some r → (u : ℤ) × (v : ℤ) × (o ≡ Some u) × (option ≡ Some v) × (i u v ≡ Some r)
 with_both_some (Some x) (Some y) i r e = (x, y, refl, refl, e)
@@ -190,10 +190,10 @@ module _ {D : Type 0} (places : Places) (size : ℕ) (a : AbsState D) (reaches :
   short_is : (z : ℤ) (r : ℤ) → short_offset z ≡ Some r → z ≡ r
   short_is z r e = (if_some (int_le (negsuc 2147483647) z && int_le z (pos 2147483647)) z r e).1
 
-  made_moved : (m : ℕ) → n ≡ m → (id : ℕ) (low high proved : ℤ) → IsAnchorPlace size low high proved (places id) → (made : Anchor) (l : ℤ) → (o : Option ℤ) → moved_offset op w low high k m ≡ o → option_map (known_at (Made id low high proved)) o ≡ Some (Data made l) → IsSum places size a op w (places id +ℤ k) n made l
+  made_moved : (m : ℕ) → n ≡ m → (id : ℕ) (low high proved : ℤ) → IsAnchorPlace size low high proved (places id) → (made : Anchor) (l : ℤ) → (o : Option ℤ) → moved_offset op w low high k m ≡ o → option_map (known_at (Variable id low high proved)) o ≡ Some (Data made l) → IsSum places size a op w (places id +ℤ k) n made l
   made_moved m same id low high proved is made l None e f = absurd cc
   made_moved m same id low high proved is made l (Some z) e f =
-      let anchor : Anchor = Made id low high proved in
+      let anchor : Anchor = Variable id low high proved in
       let parts : (anchor ≡ made) × (z ≡ l) = anchor_is anchor made z l (data_is f) in
       let ends = with_both_some (moved_place op w (low +ℤ k) m) (moved_place op w (high +ℤ k) m) (λ least greatest. short_offset (least -ℤ low)) z e in
       let s = shifts_of op w m (low +ℤ k) ends.0 ends.2 in
@@ -205,7 +205,7 @@ module _ {D : Type 0} (places : Places) (size : ℕ) (a : AbsState D) (reaches :
       let moved : moved_place op w (places id +ℤ k) n ≡ Some to = ap (moved_place op w (places id +ℤ k)) same ∙ s.at (places id +ℤ k) ∙ near_from to (omega (arith, ints, lowest_near.low, is.least)) (omega (arith, ints, highest_near.high, is.greatest)) in
       subst (λ (x : Anchor). IsSum places size a op w (places id +ℤ k) n x l) parts.0
       (record { more = places; extends = extends_itself (greatest_id a.values) places; anchored = is; moved = moved ∙ ap (λ (y : ℤ). Some y) (to_is ∙ ap (λ (y : ℤ). places id +ℤ y) parts.1) }) where
-        data_is : ◌≡◌ {A = Option (AbstractValue D)} (Some (Data (Made id low high proved) z)) (Some (Data made l)) → ◌≡◌ {A = AbstractValue D} (Data (Made id low high proved) z) (Data made l)
+        data_is : ◌≡◌ {A = Option (AbstractValue D)} (Some (Data (Variable id low high proved) z)) (Some (Data made l)) → ◌≡◌ {A = AbstractValue D} (Data (Variable id low high proved) z) (Data made l)
         data_is g = cc
 
   -- every sum that is accepted
@@ -214,10 +214,10 @@ module _ {D : Type 0} (places : Places) (size : ℕ) (a : AbsState D) (reaches :
     by : (t : Bool) → (b.lo == b.hi) ≡ t → (if t then option_map (Data First) (moved_place op w k b.lo) else made_sum a First op w k b) ≡ Some (Data made l) → IsSum places size a op w (pos 0 +ℤ k) n made l
     by true f g = let same : b.lo ≡ b.hi = eqb-true b.lo b.hi f in first_moved b.lo (omega (arith, p, q, same)) made l (moved_place op w k b.lo) refl g
     by false f g = made_is_sum First is made l g
-  data_is_sum (Made id low high proved) is made l e = by (b.lo == b.hi) refl e where
-    by : (t : Bool) → (b.lo == b.hi) ≡ t → (if t then option_map (Data (Made id low high proved)) (moved_offset op w low high k b.lo) else made_sum a (Made id low high proved) op w k b) ≡ Some (Data made l) → IsSum places size a op w (places id +ℤ k) n made l
+  data_is_sum (Variable id low high proved) is made l e = by (b.lo == b.hi) refl e where
+    by : (t : Bool) → (b.lo == b.hi) ≡ t → (if t then option_map (Data (Variable id low high proved)) (moved_offset op w low high k b.lo) else made_sum a (Variable id low high proved) op w k b) ≡ Some (Data made l) → IsSum places size a op w (places id +ℤ k) n made l
     by true f g = let same : b.lo ≡ b.hi = eqb-true b.lo b.hi f in made_moved b.lo (omega (arith, p, q, same)) id low high proved is made l (moved_offset op w low high k b.lo) refl g
-    by false f g = made_is_sum (Made id low high proved) is made l g
+    by false f g = made_is_sum (Variable id low high proved) is made l g
 
 -- a sum is a place of the datagram
 abbrev pub IsOther : {D : Type 0} → AbstractValue D → Type 0
@@ -239,7 +239,7 @@ no_other a First op w k b v other e = by (b.lo == b.hi) e where
   by : (t : Bool) → (if t then option_map (Data First) (moved_place op w k b.lo) else made_sum a First op w k b) ≡ Some v → ⊥
   by true g = mapped_other First (moved_place op w k b.lo) v other g
   by false g = made_other a First op w k b v other g
-no_other a (Made id low high proved) op w k b v other e = by (b.lo == b.hi) e where
-  by : (t : Bool) → (if t then option_map (Data (Made id low high proved)) (moved_offset op w low high k b.lo) else made_sum a (Made id low high proved) op w k b) ≡ Some v → ⊥
-  by true g = mapped_other (Made id low high proved) (moved_offset op w low high k b.lo) v other g
-  by false g = made_other a (Made id low high proved) op w k b v other g
+no_other a (Variable id low high proved) op w k b v other e = by (b.lo == b.hi) e where
+  by : (t : Bool) → (if t then option_map (Data (Variable id low high proved)) (moved_offset op w low high k b.lo) else made_sum a (Variable id low high proved) op w k b) ≡ Some v → ⊥
+  by true g = mapped_other (Variable id low high proved) (moved_offset op w low high k b.lo) v other g
+  by false g = made_other a (Variable id low high proved) op w k b v other g
