@@ -2,7 +2,7 @@
 //! datagrams come apart from what strangers send.
 
 use crate::shared::{SharedSockets, family_of};
-use crate::udp::{SocketOptions, addr_of, bind, share, socket_address};
+use crate::udp::{SocketOptions, addr_of, bind_spare, share, socket_address};
 use attributes::Addr;
 use mio::net::UdpSocket;
 use mio::{Interest, Registry, Token};
@@ -51,7 +51,7 @@ fn connected<R: Net>(
         reuse_port: true,
     };
     share(shared, true)?;
-    let bound = bind(rt, local, own);
+    let bound = bind_spare(rt, local, own);
     share(shared, options.reuse_port)?;
     let socket = bound?;
     socket.connect(socket_address(address))?;

@@ -88,12 +88,12 @@ impl SharedSockets {
     }
 
     /// Returns the number of slots.
-    pub(crate) fn slots(&self) -> usize {
+    pub(crate) fn slot_count(&self) -> usize {
         self.slots.len()
     }
 
     /// Returns the number of slots that have a socket of IPv6.
-    pub(crate) fn slots6(&self) -> usize {
+    pub(crate) fn slot_count6(&self) -> usize {
         self.slots6.len()
     }
 

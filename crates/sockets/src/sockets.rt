@@ -208,15 +208,15 @@ impl Sockets {
     /// Returns the token of the first socket of a slot: before it are that of all clients, and for each slot those that
     /// its client and a peer may have.
     fn first_slot(&self) -> usize {
-        let slots = self.endpoints.shared.slots();
+        let slots = self.endpoints.shared.slot_count();
         slots.saturating_add(slots).saturating_add(FIRST_OWN)
     }
 
     /// Returns the number of tokens: one for each socket, and for each that a client or a peer may have.
     pub fn count(&self) -> usize {
         self.first_slot()
-            .saturating_add(self.endpoints.shared.slots())
-            .saturating_add(self.endpoints.shared.slots6())
+            .saturating_add(self.endpoints.shared.slot_count())
+            .saturating_add(self.endpoints.shared.slot_count6())
     }
 
     /// Has a poll report each socket under its token, as [`socket_of`] says, when datagrams have come there.
@@ -228,7 +228,7 @@ impl Sockets {
     /// Chooses a socket by its token, and returns its endpoint. Datagrams are received at the socket that was chosen
     /// last.
     pub fn choose(&mut self, token: usize) -> Place {
-        let socket = socket_of(token, self.endpoints.shared.slots());
+        let socket = socket_of(token, self.endpoints.shared.slot_count());
         self.endpoints.chosen = socket;
         socket.place()
     }
@@ -274,7 +274,7 @@ impl Sockets {
         first: usize,
         most: usize,
     ) -> Option<usize> {
-        let slots = self.endpoints.shared.slots();
+        let slots = self.endpoints.shared.slot_count();
         let mut closed = 0;
         for token in first..self.first_slot() {
             if closed >= most {

@@ -6,6 +6,7 @@ ghost use Rattle.libc.specs.Net.{Family};
 
 use attributes::Addr;
 use libc::net as c;
+use libc::types::rlimit;
 use mio::net::UdpSocket;
 use os::FromRawFd;
 use server::{LinkFault, Receipt};
@@ -17,6 +18,9 @@ use std::os::fd::{AsRawFd, OwnedFd};
 const LENGTH: u32 = 16;
 
 const LENGTH6: u32 = 28;
+
+/// How many of the descriptors that the process may have are left for files.
+const FOR_FILES: u64 = 16;
 
 /// The options of a socket.
 #[derive(Clone, Copy)]
@@ -47,6 +51,30 @@ fn new(family: i32) -> io::Result<OwnedFd>
     let fd = unsafe { c::socket(family, kind, 0) };
     check(fd)?;
     Ok(unsafe { OwnedFd::from_raw_fd(fd) })
+}
+
+/// Returns a new socket for datagrams of the family of an address.
+fn new_for(address: SocketAddr) -> io::Result<OwnedFd> {
+    match address {
+        SocketAddr::V4(_) => new(c::AF_INET),
+        SocketAddr::V6(_) => new(c::AF_INET6),
+    }
+}
+
+/// Returns whether a descriptor is one of the last that the process may have, which are left for files. The system
+/// gives the lowest that is free (POSIX.1-2017, section 2.14), so all before it are in use.
+fn is_for_files(fd: i32) -> bool {
+    let mut limit = rlimit {
+        rlim_cur: 0,
+        rlim_max: 0,
+    };
+    if check(libc::getrlimit(libc::RLIMIT_NOFILE, &mut limit)).is_err() {
+        return false;
+    }
+    match u64::try_from(fd) {
+        Ok(fd) => fd.saturating_add(FOR_FILES) >= limit.rlim_cur,
+        Err(_) => false,
+    }
 }
 
 /// Returns the value of an option of a socket.
@@ -100,22 +128,26 @@ fn encode6(address: SocketAddrV6) -> [u8; c::_SS_SIZE] {
 }
 
 /// Binds a socket of IPv4 to an address.
-fn bind4(address: SocketAddrV4, options: SocketOptions) -> io::Result<OwnedFd> {
-    let socket = new(c::AF_INET)?;
-    set(socket.as_raw_fd(), options)?;
-    check(unsafe { c::bind(socket.as_raw_fd(), &encode(address), LENGTH) })?;
-    Ok(socket)
+fn bind4(fd: i32, address: SocketAddrV4) -> io::Result<()> {
+    check(unsafe { c::bind(fd, &encode(address), LENGTH) })
 }
 
 /// Binds a socket of IPv6 to an address. It receives and sends datagrams of IPv6 alone, so that a socket of IPv4 can
 /// have the same port (RFC 3493, section 5.3).
-fn bind6(address: SocketAddrV6, options: SocketOptions) -> io::Result<OwnedFd> {
-    let socket = new(c::AF_INET6)?;
+fn bind6(fd: i32, address: SocketAddrV6) -> io::Result<()> {
+    check(unsafe { c::setsockopt(fd, c::IPPROTO_IPV6, c::IPV6_V6ONLY, &value(1), 4) })?;
+    check(unsafe { c::bind(fd, &encode6(address), LENGTH6) })
+}
+
+/// Sets the options of a new socket of the family of an address, and binds it to the address.
+fn bind_new(socket: OwnedFd, address: SocketAddr, options: SocketOptions) -> io::Result<UdpSocket> {
     let fd = socket.as_raw_fd();
     set(fd, options)?;
-    check(unsafe { c::setsockopt(fd, c::IPPROTO_IPV6, c::IPV6_V6ONLY, &value(1), 4) })?;
-    check(unsafe { c::bind(fd, &encode6(address), LENGTH6) })?;
-    Ok(socket)
+    match address {
+        SocketAddr::V4(address) => bind4(fd, address)?,
+        SocketAddr::V6(address) => bind6(fd, address)?,
+    }
+    Ok(UdpSocket::from(socket))
 }
 
 /// Binds a socket to an address.
@@ -124,11 +156,21 @@ pub(crate) fn bind<R: Net>(
     address: SocketAddr,
     options: SocketOptions,
 ) -> io::Result<UdpSocket> {
-    let socket = match address {
-        SocketAddr::V4(address) => bind4(address, options)?,
-        SocketAddr::V6(address) => bind6(address, options)?,
-    };
-    Ok(UdpSocket::from(socket))
+    bind_new(new_for(address)?, address, options)
+}
+
+/// Binds a socket to an address, unless its descriptor is one of those that are left for files.
+/// See docs/DECISIONS.md, "Descriptors for files".
+pub(crate) fn bind_spare<R: Net>(
+    _net: &R,
+    address: SocketAddr,
+    options: SocketOptions,
+) -> io::Result<UdpSocket> {
+    let socket = new_for(address)?;
+    if is_for_files(socket.as_raw_fd()) {
+        return Err(io::Error::from_raw_os_error(libc::EMFILE));
+    }
+    bind_new(socket, address, options)
 }
 
 /// Returns the bytes that the smaller buffer of a socket has for datagrams. The system reports twice as many, half of
