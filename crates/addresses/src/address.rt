@@ -3,7 +3,7 @@
 ghost use Rattle.std.specs.Prelude.{◌≡◌, ℕ, ◌<◌, slice_index};
 ghost use Rattle.addresses.specs.Addresses.{HasWidth, IsAddress};
 
-/// A family of IP addresses (RFC 8656, section 18.8).
+/// A family of IP addresses (RFC 8656, section 18.6).
 #[derive(Clone, Copy, Debug, PartialEq, Eq)]
 pub enum Family {
     Ipv4,

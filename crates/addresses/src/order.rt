@@ -11,7 +11,7 @@ ghost use Rattle.addresses.specs.laws.AddressOrder.{address_order-ties, address_
 use crate::address::Addr;
 use std::cmp::Ordering;
 
-/// The numbers of the families (RFC 8656, section 18.8), by which addresses are ordered first.
+/// The numbers of the families (RFC 8656, section 18.6), by which addresses are ordered first.
 const IPV4: u8 = 1;
 
 const IPV6: u8 = 2;

@@ -1,4 +1,4 @@
-//! Decimal numbers in texts, inputs and outputs that remember that they failed, reasons of the system, and a ghost
+//! Decimal numbers in texts, inputs and outputs that remember that they failed, errors of the system, and a ghost
 //! counter. How definitions write steps that may fail is in `specs/`, and has no code.
 #![tactic(auto)]
 

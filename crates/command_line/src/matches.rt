@@ -272,9 +272,10 @@ fn named<'a>(
 /// subcommand of relayd.
 ///
 /// # Errors
-/// The first text that spells no value of its option, in this order: those of `--port`, `--rounds`, `--listen`,
-/// `--listen6`, `--buffer`, `--nonce-lifetime`, `--stats` and `--record-limit`; then those of `--relay-ip6`, `--slots`,
-/// `--user-slots`, `--relay-ip` and `--first-port`.
+/// The text of `--slot` of `explain` where it is no number. Of `replay` and `serve` the first text that spells no value
+/// of its option, in this order: those of `--trace`, `--port`, `--rounds`, `--listen`, `--listen6`, `--buffer`,
+/// `--nonce-lifetime`, `--stats` and `--record-limit`; then those of `--relay-ip6`, `--slots`, `--user-slots`,
+/// `--relay-ip` and `--first-port`.
 /// See docs/DECISIONS.md, "Numbers of options".
 pub fn subcommand_of<'a>(
     matches: &'a ArgMatches<'_>,

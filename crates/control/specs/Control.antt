@@ -84,7 +84,7 @@ requested_lifetime p = optional_value (number_of_value 4) (first_value p LIFETIM
 abbrev pub requested_family : Parts → Result (Option ℕ) ErrorCode
 requested_family p = optional_value (number_of_value 1) (first_value p REQUESTED_ADDRESS_FAMILY)
 
--- the number of a family (RFC 8656, section 18.8), and the family of a number
+-- the number of a family (RFC 8656, section 18.6), and the family of a number
 abbrev pub family_number : Family → ℕ
 family_number Ipv4 = IPV4
 family_number Ipv6 = IPV6

@@ -30,7 +30,7 @@ fn is_repeated(allocation: &Allocation, user: usize, message: &Message<'_>) -> b
     allocation.tx == message.tx() && allocation.user == user
 }
 
-/// Returns the family of a number (RFC 8656, section 18.8), if it is that of one.
+/// Returns the family of a number (RFC 8656, section 18.6), if it is that of one.
 fn family_numbered(number: u8) -> Option<Family>
     ensures { result ≡ family_numbered number }
 {

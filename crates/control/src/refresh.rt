@@ -15,7 +15,7 @@ use stun::Message;
 use stun::registry::{ErrorCode, family};
 use tables::Tables;
 
-/// Returns the number of a family (RFC 8656, section 18.8).
+/// Returns the number of a family (RFC 8656, section 18.6).
 fn family_number(family: Family) -> u8
     ensures { result ≡ family_number family }
 {

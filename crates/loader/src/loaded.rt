@@ -24,7 +24,7 @@ use verifier::{Refusal, Steps, Verified, verify};
 /// The number of abstract steps that the verification of a program may take.
 pub const BUDGET: usize = 100_000;
 
-/// What the verification of a program that is loaded in slices may weigh: some 5 seconds of a processor.
+/// What the verification of a program that is loaded in slices may weigh: some four seconds of a processor.
 /// See docs/DECISIONS.md, "What work weighs".
 pub const WEIGHT: usize = 1 << 32;
 
@@ -89,8 +89,8 @@ fn verified(alloc: Global, code: &[Insn]) -> Result<Verified, Refusal>
 ///
 /// # Errors
 /// E1 to E7 where the bytes encode no program, as [`decode`] names them. Otherwise V1 to V4 where the layout of the
-/// program is faulty, V5 to V16 and V18 where a step could be stuck, and V17 where following its paths needs more than
-/// 100,000 steps. E8 and V19 where memory runs out.
+/// program is faulty, V5 to V16, V18 and V20 where a step could be stuck, and V17 where following its paths needs more
+/// than 100,000 steps. E8 and V19 where memory runs out.
 pub fn load(alloc: Global, bytes: &[u8]) -> Result<Loaded, LoadError>
     // What is loaded is the program that the bytes encode, and every run of it exits.
     ensures loaded { IfOk result (λ code. IsLoaded code bytes.now) }

@@ -81,8 +81,8 @@ fn outside(server: &ServerAddresses, ip: Addr) -> ServerEndpoint
     ServerEndpoint::Outside { ip, first, last }
 }
 
-/// Returns the ports of an IPv4 address of a server at which no peer is; none of a loopback address, or of all
-/// addresses.
+/// Returns the ports of an IPv4 address of a server at which no peer is; none of a loopback or an unspecified
+/// address.
 fn outside_v4(server: &ServerAddresses, ip: Ipv4Addr) -> Option<ServerEndpoint>
     ensures { IsOutsideV4 server.now ip result }
 {
@@ -93,8 +93,8 @@ fn outside_v4(server: &ServerAddresses, ip: Ipv4Addr) -> Option<ServerEndpoint>
     Some(outside(server, Addr::V4 { ip, port: 0 }))
 }
 
-/// Returns the ports of an IPv6 address of a server at which no peer is; none of a loopback address, or of all
-/// addresses.
+/// Returns the ports of an IPv6 address of a server at which no peer is; none of a loopback or an unspecified
+/// address.
 fn outside_v6(server: &ServerAddresses, ip: Option<Ipv6Addr>) -> Option<ServerEndpoint>
     ensures { IsOutsideV6 server.now ip result }
 {

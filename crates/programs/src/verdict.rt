@@ -8,7 +8,7 @@ pub const DISCARDS: u64 = 0;
 /// The verdict that passes a client's datagram on to the rules for requests. A peer's datagram is discarded.
 pub const PASSES: u64 = 1;
 
-/// The verdict that sends the window.
+/// The verdict that sends the window to the destination, where the program has chosen both.
 pub const SENDS: u64 = 2;
 
 /// States the verdicts.

@@ -354,7 +354,7 @@ impl<'a> Server<'a> {
     }
 
     /// Opens some sockets that clients and peers are to have, which a poll reports. Returns whether there were some;
-    /// without a poll there are none.
+    /// without a poll, none is opened.
     fn open_own_sockets<R: Net>(&mut self, rt: &R, poll: Option<&Poll>) -> bool {
         match poll {
             Some(poll) => self.wire.sockets.open_wanted(rt, poll, SOCKETS),
@@ -488,7 +488,7 @@ impl<'a> Server<'a> {
     }
 
     /// Serves a socket, and receives ahead there if the server is busy. Returns whether more may be there.
-    /// See docs/DECISIONS.md, "A clock is read once a drain".
+    /// See docs/DECISIONS.md, "A clock is read once for a turn of datagrams".
     /// See docs/DESIGN.md, "One function serves a datagram".
     /// See docs/DECISIONS.md, "A busy server receives ahead".
     #[inline(never)]

@@ -1,5 +1,5 @@
--- Meaning. That users of a relay are apart: what a datagram draws depends on the rows of its own allocation alone, and it changes
--- no other's.
+-- Meaning. That users of a relay are apart: of the rows, what a datagram draws depends on those of its own allocation alone, for a
+-- client beside the next free slot and the counts that a quota is of, and it changes no other's.
 use Rattle.std.specs.Prelude.{◌≡◌, ℕ, List, [], ◌∷◌, length, map, Option, None, Some, if◌then◌else◌}
 use Rattle.addresses.specs.AddressOrder.{is_same_address}
 use Rattle.addresses.specs.declared.address.Addr.{Addr}

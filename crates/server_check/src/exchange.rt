@@ -29,11 +29,11 @@ impl ReceivedMessage {
     }
 }
 
-/// What is waited for.
+/// A datagram that is waited for.
 #[derive(Clone, Copy)]
 pub(crate) struct Wanted<'a> {
     pub(crate) step: CheckStep,
-    /// From where it comes.
+    /// The address that it comes from.
     pub(crate) from: SocketAddr,
     pub(crate) is: What<'a>,
 }
@@ -50,7 +50,7 @@ pub(crate) enum What<'a> {
 }
 
 impl Wanted<'_> {
-    /// Returns whether a datagram is it.
+    /// Returns whether a datagram from an address is what is waited for.
     fn is_met_by(&self, datagram: &[u8], from: SocketAddr) -> bool {
         from == self.from
             && match self.is {

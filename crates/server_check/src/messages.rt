@@ -12,7 +12,7 @@ use stun::{Builder, Message, NoRoom, read};
 /// The most bytes of a message.
 pub(crate) const MESSAGE_BYTES: usize = 1_500;
 
-/// The value of REQUESTED-TRANSPORT for UDP (RFC 8656, section 18.7).
+/// The value of REQUESTED-TRANSPORT for UDP (RFC 8656, section 18.8).
 const UDP: [u8; 4] = [17, 0, 0, 0];
 
 /// The response to a request without credentials (RFC 8489, section 9.2.4).
