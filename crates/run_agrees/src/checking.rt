@@ -1,6 +1,6 @@
 //! Loads programs, counts what comes of them, and compares the runs of those that are accepted.
 
-use crate::comparison::Comparison;
+use crate::comparison::RunComparison;
 use crate::random::Random;
 use anyhow::{Result, bail};
 use loader::load;
@@ -11,21 +11,21 @@ use verifier::Verified;
 /// The seed of the pairs of bits.
 const SEED: u64 = 21;
 
-/// What is done with the program of a line.
+/// The variants of the program of a line that are checked.
 #[derive(Clone, Copy, Debug, PartialEq, Eq)]
-pub enum Work {
-    /// The program itself is checked.
+pub enum Variants {
+    /// The program itself.
     Whole,
-    /// Each of its bits is flipped in turn; the datagrams of the worked session come too.
+    /// Those with one of its bits flipped, each in turn; the datagrams of the worked session come too.
     Flips,
-    /// Pairs of its bits are flipped, as many as this.
+    /// Those with a drawn pair of its bits flipped, as many as this.
     Pairs(u64),
 }
 
-/// The counts of what came of programs, and the comparison of their runs.
+/// The programs that were checked: the counts of what came of them, and the comparison of their runs.
 #[derive(Drop)]
-pub struct Checks {
-    pub comparison: Comparison,
+pub struct CheckedPrograms {
+    pub comparison: RunComparison,
     pub counts: BTreeMap<String, u64>,
     random: Random,
     datagrams: u64,
@@ -45,14 +45,14 @@ fn any_bit(random: &mut Random, bytes: &[u8]) -> usize {
     random.below(bits) as usize
 }
 
-impl Checks {
+impl CheckedPrograms {
     /// Makes the counts of no program; each program that is accepted will run over so many datagrams.
     ///
     /// # Errors
     /// Where memory runs out.
-    pub fn new(alloc: Global, datagrams: u64) -> Result<Checks> {
-        Ok(Checks {
-            comparison: Comparison::new(alloc)?,
+    pub fn new(alloc: Global, datagrams: u64) -> Result<CheckedPrograms> {
+        Ok(CheckedPrograms {
+            comparison: RunComparison::new(alloc)?,
             counts: BTreeMap::new(alloc),
             random: Random::new(SEED),
             datagrams,
@@ -74,9 +74,13 @@ impl Checks {
     }
 
     /// Compares the runs of a program, and returns which datagram is the first one where they differ, and what differs.
-    fn first_difference(&mut self, program: &Verified, work: Work) -> Option<(u64, &'static str)> {
+    fn first_difference(
+        &mut self,
+        program: &Verified,
+        variants: Variants,
+    ) -> Option<(u64, &'static str)> {
         let found = self.comparison.first_difference(program, self.datagrams);
-        if found.is_some() || work != Work::Flips {
+        if found.is_some() || variants != Variants::Flips {
             return found;
         }
         let (number, part) = self.comparison.first_worked_difference(program)?;
@@ -87,7 +91,7 @@ impl Checks {
     ///
     /// # Errors
     /// Where a run and a trace differ, or memory runs out.
-    fn check(&mut self, alloc: Global, bytes: &[u8], work: Work) -> Result<()> {
+    fn check(&mut self, alloc: Global, bytes: &[u8], variants: Variants) -> Result<()> {
         let loaded = match load(alloc, bytes) {
             Ok(loaded) => loaded,
             Err(error) => {
@@ -97,7 +101,7 @@ impl Checks {
             }
         };
         self.count(alloc, "accepted")?;
-        let found = self.first_difference(loaded.program(), work);
+        let found = self.first_difference(loaded.program(), variants);
         if let Some((number, part)) = found {
             let program = hex::encode(alloc, bytes)?;
             bail!("datagram {number}: another {part} of the program {program}");
@@ -110,7 +114,7 @@ impl Checks {
         let bits = bytes.len().saturating_mul(8);
         for bit in 0..bits {
             flip(bytes, bit);
-            self.check(alloc, bytes, Work::Flips)?;
+            self.check(alloc, bytes, Variants::Flips)?;
             flip(bytes, bit);
         }
         Ok(())
@@ -123,7 +127,7 @@ impl Checks {
             let second = any_bit(&mut self.random, bytes);
             flip(bytes, first);
             flip(bytes, second);
-            self.check(alloc, bytes, Work::Pairs(count))?;
+            self.check(alloc, bytes, Variants::Pairs(count))?;
             flip(bytes, first);
             flip(bytes, second);
         }
@@ -134,12 +138,12 @@ impl Checks {
     ///
     /// # Errors
     /// Where the line is not hexadecimal, where a run and a trace differ, or memory runs out.
-    pub fn check_line(&mut self, alloc: Global, line: &str, work: Work) -> Result<()> {
+    pub fn check_line(&mut self, alloc: Global, line: &str, variants: Variants) -> Result<()> {
         let mut bytes = hex::decode(alloc, line)?;
-        match work {
-            Work::Whole => self.check(alloc, &bytes, work),
-            Work::Flips => self.check_flips(alloc, &mut bytes),
-            Work::Pairs(count) => self.check_pairs(alloc, &mut bytes, count),
+        match variants {
+            Variants::Whole => self.check(alloc, &bytes, variants),
+            Variants::Flips => self.check_flips(alloc, &mut bytes),
+            Variants::Pairs(count) => self.check_pairs(alloc, &mut bytes, count),
         }
     }
 }

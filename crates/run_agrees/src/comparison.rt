@@ -69,7 +69,7 @@ fn difference<H: Helpers>(
 
 /// A frame for runs and one for traces, which are used again for each datagram, and the tables that helpers look up in.
 #[derive(Drop)]
-pub struct Comparison {
+pub struct RunComparison {
     random: Random,
     tables: Tables,
     worked_tables: Tables,
@@ -79,13 +79,13 @@ pub struct Comparison {
     windows: u64,
 }
 
-impl Comparison {
+impl RunComparison {
     /// Allocates the frames and the tables.
     ///
     /// # Errors
     /// Where memory runs out.
-    pub fn new(alloc: Global) -> Result<Comparison> {
-        Ok(Comparison {
+    pub fn new(alloc: Global) -> Result<RunComparison> {
+        Ok(RunComparison {
             random: Random::new(SEED),
             tables: tables(alloc)?,
             worked_tables: worked_tables(alloc)?,
@@ -156,7 +156,7 @@ impl Comparison {
         None
     }
 
-    /// As [`first_difference`](Comparison::first_difference), over the datagrams of the worked session.
+    /// As [`first_difference`](RunComparison::first_difference), over the datagrams of the worked session.
     pub fn first_worked_difference(&mut self, program: &Verified) -> Option<(u64, &'static str)> {
         for (number, worked) in (0..).zip(&WORKED) {
             if let Some(part) = self.worked_difference(program, worked) {
