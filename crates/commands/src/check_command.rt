@@ -1,10 +1,10 @@
 //! Checking a server as a client does.
 
-use crate::error::{CommandError, end};
 use command_line::OptionError;
 use rand::make_rng;
 use rand::rngs::StdRng;
 use server_check::{Account, check as check_server};
+use setup::{CommandError, end};
 use std::io::{self, Write};
 use std::net::{Net, SocketAddr, ToSocketAddrs};
 use std::random::RandomSource;

@@ -2,11 +2,10 @@
 
 ghost use Rattle.std.specs.Prelude.{◌≡◌, false};
 
-use crate::error::CommandError;
-use crate::options::unread;
 use crate::replay_command::replay_fault;
 use basics::streams::{self, Output};
 use relay::{Relay, next_line};
+use setup::{CommandError, unread};
 use std::alloc::Global;
 use std::fs;
 use std::io::{self, BufRead, BufReader, BufWriter, Write};

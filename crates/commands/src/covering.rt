@@ -2,8 +2,6 @@
 
 ghost use Rattle.std.specs.Prelude.{◌≡◌, false, OnOk};
 
-use crate::error::CommandError;
-use crate::options::{Prepared, ProgramBytes};
 use crate::replay_command::{Maps, replay_fault};
 use crate::reports::print_annotated;
 use basics::streams::{Input, Output};
@@ -12,6 +10,7 @@ use insn::decode;
 use machine::{Kept, Side};
 use relay::{Relay, next_line};
 use report::{Coverage, SourceMap, annotated, report_end};
+use setup::{CommandError, Prepared, ProgramBytes};
 use std::alloc::{AllocError, Global};
 use std::io::{self, BufRead, BufWriter, Write};
 

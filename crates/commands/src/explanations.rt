@@ -1,12 +1,11 @@
 //! The commands `explain` and `graph`: print what the verifier knew of a program, and draw its blocks.
 
-use crate::error::{CommandError, REFUSED, status_of};
-use crate::options::unread;
 use crate::reading::{note_object_file, read_whole};
 use crate::reports::{map_of, print_annotated, read_lines};
 use explaining::{ExplainError, Explained, explain_file, graph_file};
 use loader::LoadError;
 use report::{SourceMap, annotated};
+use setup::{CommandError, REFUSED, status_of, unread};
 use std::alloc::{AllocError, Global};
 use std::io::{self, BufWriter, Write};
 use std::rt::Files;

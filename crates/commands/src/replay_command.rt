@@ -2,14 +2,13 @@
 
 use crate::comparing::compare_file;
 use crate::covering::{cover_events, trace_event};
-use crate::error::{CommandError, end};
-use crate::options::{Prepared, ProgramBytes, Relayed, set_up, unread};
 use crate::reports::{map_of, read_lines};
 use basics::streams::{self, Output};
 use command_line::{Options, ReplayOptions, defaults};
 use machine::Side;
 use relay::{Relay, ReplayError};
 use report::SourceMap;
+use setup::{CommandError, Prepared, ProgramBytes, Relayed, end, set_up, unread};
 use std::alloc::Global;
 use std::fs;
 use std::io::{self, BufRead, BufReader, BufWriter, Write};

@@ -1,10 +1,9 @@
 //! The commands `verify`, `trace` and `disassemble`: reports on the program in a file, with the lines of its source.
 
-use crate::error::{CommandError, REFUSED, status_of};
-use crate::options::unread;
 use crate::reading::read_whole;
 use basics::streams::Output;
 use report::{Ask, MapError, SourceMap, annotated, report};
+use setup::{CommandError, REFUSED, status_of, unread};
 use std::alloc::Global;
 use std::fs;
 use std::io::{self, BufWriter, Write};

@@ -4,8 +4,6 @@
 ghost use Rattle.std.specs.Prelude.{IfOk, IfSome};
 ghost use Rattle.tables.specs.Channels.{IsChannelNumber};
 
-use crate::error::{CommandError, status_of};
-use crate::options::unread;
 use crate::reading::read_whole;
 use crate::reports::{map_of, print_annotated, read_lines, report_file};
 use attributes::Family;
@@ -15,6 +13,7 @@ use helpers::Lookup;
 use insn::{DecodeError, decode};
 use machine::{Addr, Context, Frame, Side};
 use report::{Ask, ReportError, report_run, start_frame};
+use setup::{CommandError, status_of, unread};
 use std::alloc::Global;
 use std::io::{self, Write};
 use std::net::{IpAddr, SocketAddr};

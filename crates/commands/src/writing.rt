@@ -1,7 +1,5 @@
 //! The commands `assemble` and `order`: write a program to a file, and its source map to another.
 
-use crate::error::{CommandError, REFUSED, status_of};
-use crate::options::unread;
 use crate::reading::{note_object_file, read_text, read_whole};
 use crate::reports::{map_of, read_lines};
 use asm::{AsmError, assemble_with_lines};
@@ -10,6 +8,7 @@ use insn::{DecodeError, decode};
 use ordering::{FileError, FileInOrder, OrderError, Places, order_file, way_round};
 use report::{SourceLine, SourceMap, annotated, map_of_slots, map_of_text};
 use semantics::{Fetched, Program};
+use setup::{CommandError, REFUSED, status_of, unread};
 use std::alloc::{AllocError, Global};
 use std::fs;
 use std::io::Write;

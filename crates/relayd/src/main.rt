@@ -2,23 +2,18 @@
 //! assembles a text, replays events, serves sockets or checks a server.
 #![tactic(auto)]
 
-mod chores;
-mod clock;
-mod filters;
 mod options_file;
-mod serve_command;
-mod starting;
 
 use crate::options_file::further_words;
-pub use crate::serve_command::serve;
 use clap::ArgMatches;
 use clap::error::ErrorKind as LineErrorKind;
 use command_line::{Subcommand, line, subcommand_of};
 use commands::{
-    BAD_LINE, CommandError, assemble_file, check, end, explain, graph, reorder_file, replay,
-    report_file, trace, verify_file,
+    assemble_file, check, explain, graph, reorder_file, replay, report_file, trace, verify_file,
 };
 use report::Ask;
+use serving::serve;
+use setup::{BAD_LINE, CommandError, end};
 use std::alloc::{AllocError, Global};
 use std::env;
 use std::fs::File;

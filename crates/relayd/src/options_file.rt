@@ -1,7 +1,7 @@
 //! The file of `--options`.
 
 use command_line::option_of_line;
-use commands::{CommandError, unread};
+use setup::{CommandError, unread};
 use std::alloc::{AllocError, Global};
 use std::fs;
 use std::rt::Files;

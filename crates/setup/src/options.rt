@@ -1,16 +1,17 @@
 //! Options that set up a relay.
 
+use crate::command_error::CommandError;
 use crate::confinements::confinement_of;
-use crate::error::CommandError;
+use crate::error::{ProgramError, RefusedProgram, SetupError};
+use crate::revoked::{RevokedError, revoked_in};
+use crate::secrets::{Secrets, SecretsError, secrets_in};
+use crate::setting_up::{Setup, relay_of};
+use crate::users::{UsersError, add_users, add_users_of_lines};
 use command_line::{OptionError, Options};
 use credentials::User;
 use machine::Side;
 use programs::{CLIENT, PEER};
 use relay::Relay;
-use setup::{
-    ProgramError, RefusedProgram, RevokedError, Secrets, SecretsError, Setup, SetupError,
-    UsersError, add_users, add_users_of_lines, relay_of, revoked_in, secrets_in,
-};
 use std::rt::Files;
 use std::{fs, io};
 

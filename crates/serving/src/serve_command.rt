@@ -7,7 +7,6 @@ use crate::starting::{give_shadows, shadows_of, start};
 use arrayvec::ArrayVec;
 use attributes::Addr;
 use command_line::{Options, ServerOptions};
-use commands::{CommandError, Relayed, end};
 use control::{Grant, Response};
 use mio::{Events, Poll, Token};
 use monitoring::{EndReason, ErrorLines, Observed, RecordEnd, Reports, Sender, Watch, named_peer};
@@ -20,6 +19,7 @@ use server::{
     Arrival, ClockOffset, Counters, Duty, LinkFault, Place, Ports, Schedule, ServerClock, TURNS,
     Timer, TurnOutcome, Work, do_next, draw_nonce, serve_round, turn,
 };
+use setup::{CommandError, Relayed, end};
 use sockets::Sockets;
 use std::fs::File;
 use std::io::{self, Write};

@@ -1,19 +1,21 @@
-//! Why a command ends early: the line and the exit status of each error.
+//! Why a command of the program ends early: the line and the exit status of each error.
 
+use crate::error::{RefusedProgram, SetupError};
+use crate::revoked::RevokedError;
+use crate::users::LineFault;
 use asm::AsmError;
 use basics::SystemError;
 use command_line::{OptionError, OptionFault, RelayedError};
 use peer_filter::{FilterError, NetworkError};
 use report::{MapError, ReportError};
 use server_check::CheckError;
-use setup::{LineFault, RefusedProgram, RevokedError, SetupError};
 use std::io::Write;
 use std::net::SocketAddr;
 use tables::TableError;
 use thiserror::Error;
 
 /// The exit status of a refusal.
-pub(crate) const REFUSED: u8 = 1;
+pub const REFUSED: u8 = 1;
 
 /// The exit status of a bad command line.
 pub const BAD_LINE: u8 = 2;
@@ -173,7 +175,7 @@ pub fn end<E: Write>(err: &mut E, error: CommandError<'_>) -> u8 {
 }
 
 /// Prints the line of the error to `err` with which a command ended, if it ended with one, and returns the exit status.
-pub(crate) fn status_of<E: Write>(err: &mut E, ended: Result<u8, CommandError<'_>>) -> u8 {
+pub fn status_of<E: Write>(err: &mut E, ended: Result<u8, CommandError<'_>>) -> u8 {
     match ended {
         Ok(status) => status,
         Err(error) => end(err, error),

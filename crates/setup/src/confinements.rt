@@ -1,9 +1,9 @@
 //! What confines the programs, by the options.
 
-use crate::error::CommandError;
+use crate::aliases::alias;
+use crate::command_error::CommandError;
 use command_line::{OptionError, Options};
 use relay::{Alias, Confinement};
-use setup::alias;
 use std::alloc::Global;
 
 /// The most addresses that count as others.

@@ -1,8 +1,8 @@
 //! The peers that a server sends nothing to, by its options.
 
 use command_line::{OptionError, Options, ServerOptions};
-use commands::CommandError;
 use peer_filter::{FilterError, MAX_RULES, Network, PeerFilter, Rule, RuleAction, ServerAddresses};
+use setup::CommandError;
 use sockets::Addresses;
 use std::alloc::Global;
 
