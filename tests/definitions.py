@@ -43,7 +43,7 @@ MOST_EDITS = 8
 MOST_COLUMNS = 120
 MAY_BE_WIDE = re.compile(r'\s*(ghost use |use |#\[tactic|0x\w\w, .* // )|(?!\s*//).*"')
 # where the path of a datagram begins
-TURN = Function("relayd", "ServedEndpoints", "serve")
+TURN = Function("serving", "ServedEndpoints", "serve")
 # the folders of a crate that have them: the gate tries those of the first one, tests/wrong_bodies.py those of the second one
 EDITS = ("must-fail", "wrong-bodies")
 

@@ -12,7 +12,7 @@ use commands::{
     assemble_file, check, explain, graph, reorder_file, replay, report_file, trace, verify_file,
 };
 use report::Ask;
-use serving::serve;
+pub use serving::serve;
 use setup::{BAD_LINE, CommandError, end};
 use std::alloc::{AllocError, Global};
 use std::env;

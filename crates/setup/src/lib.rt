@@ -1,5 +1,5 @@
-//! Sets up a relay: from the values of options, users and the bytes of programs to a relay that can begin. The crate also
-//! has each error that ends a command of the program.
+//! Sets up a relay: from the values of options, users and the bytes of programs to a relay that can begin. The crate
+//! also has each error that ends a command of the program.
 #![tactic(auto)]
 
 mod aliases;
