@@ -2,7 +2,7 @@
 
 A run whose allocations are refused has to end as one whose are not, or with `out of memory` on standard
 error, nothing on standard output, and the status 4. Allocations are counted from a constructor of the
-preloaded library on, so all those of `main` are counted. And `repeated_calls replay`, which makes a refused call once more:
+preloaded library on, so all those of `main` are counted. And `call_tests replay`, which makes a refused call once more:
 it has to print the right answers wherever memory is refused in the middle of a replay. And its other commands, which make a
 call twice: the one that is refused memory has to name that as its own refusal, with the slot in V19, and the other one to
 give the right answer. And a server that replaces its users, which is refused memory once while it does: it tries again. As
@@ -98,7 +98,7 @@ CASES = [
     (["load"], 2),
     (["--help"], 0),
 ]
-# what repeated_calls disassembles: jumps at slots 3, 5 and 7 lead to slots 5, 7 and 9
+# what call_tests disassembles: jumps at slots 3, 5 and 7 lead to slots 5, 7 and 9
 LISTING = """\
 mov r0, 0
 ldxdw r2, [r1+32]
@@ -114,7 +114,7 @@ exit
 # before the first step, where room for pending states is taken too, it is slot 0; then a state is kept at each slot that a jump
 # leads to
 SLOTS = [0, 5, 7, 9]
-# each call of repeated_calls with its answer, and its refusals of memory in the order in which they first come
+# each call of call_tests with its answer, and its refusals of memory in the order in which they first come
 CALLS = {
     "decode": ("10 instructions", ["E8"]),
     "load": ("10 instructions", ["E8", *[f"V19 at {slot}" for slot in SLOTS]]),
@@ -181,8 +181,8 @@ def failures_of(words, status, library):
 
 def built(command):
     """Returns the program that repeats calls, which is built where it is not there, and makes the call of a command then."""
-    folder = TOP / "crates" / "repeated_calls"
-    program = folder / "out" / "repeated_calls"
+    folder = TOP / "crates" / "call_tests"
+    program = folder / "out" / "call_tests"
     if not program.exists():
         command = ["rt", "run", "--", command]
         subprocess.run(command, cwd=folder, stdin=subprocess.DEVNULL, capture_output=True, check=True)
@@ -194,15 +194,15 @@ def failures_of_repeated(library):
 
     Where memory is refused before the first event or for the program's own line, it ends with the status 1.
     """
-    folder = TOP / "crates" / "repeated_calls"
+    folder = TOP / "crates" / "call_tests"
     answers = (folder / "stdout").read_text(encoding="utf-8")
     ends = dict(refused_runs(["replay"], library, False, program=built("replay"), events=folder / "stdin"))
     well = {first for first, end in ends.items() if end == (0, answers, "")}
-    failures = [f"repeated_calls replay, refused at {first}: {end[0]}, {end[2]!r}" for first, end in ends.items()
+    failures = [f"call_tests replay, refused at {first}: {end[0]}, {end[2]!r}" for first, end in ends.items()
                 if first not in well and not (end[0] == 1 and answers.startswith(end[1]))]
     repeated = len(well)
     if repeated < len(answers.splitlines()):
-        failures.append(f"repeated_calls replay: only {repeated} of {len(ends)} runs ended well")
+        failures.append(f"call_tests replay: only {repeated} of {len(ends)} runs ended well")
     return failures, len(ends)
 
 
@@ -220,12 +220,12 @@ def failures_of_call(command, ends):
         if (status, out) == (1, "") or (status, lines, err) == (0, [right, right], ""):
             continue
         if (status, err, len(lines), lines.count(right)) != (0, "", 2, 1):
-            yield f"repeated_calls {command}, refused at {number}: {status}, {out!r}, {err!r}"
+            yield f"call_tests {command}, refused at {number}: {status}, {out!r}, {err!r}"
             continue
         call = lines.index(right) ^ 1
         refused[call].append(lines[call].removeprefix(f"{command} "))
     if list(dict.fromkeys(refused[0])) != refusals or refused[1] != refused[0]:
-        yield f"repeated_calls {command}: {refused}"
+        yield f"call_tests {command}: {refused}"
 
 
 def failures_of_calls(library):

@@ -514,7 +514,7 @@ def cut_datagrams():
 
 def stored():
     """The model against the stored session of Chromium, whose answers another implementation wrote."""
-    folder = TOP / "crates" / "repeated_calls"
+    folder = TOP / "crates" / "call_tests"
     rules = Rules([("u", "p")])
     events = (folder / "stdin").read_text().splitlines()
     answers = (folder / "stdout").read_text().splitlines()

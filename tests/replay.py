@@ -19,7 +19,7 @@ from lib.rules import (
     XOR_PEER_ADDRESS, XOR_RELAYED_ADDRESS, address_value, key_of, message)
 
 EXAMPLES = TOP / "examples"
-SESSION = TOP / "crates" / "repeated_calls"
+SESSION = TOP / "crates" / "call_tests"
 USER = ["--user", "u:p"]
 # `exit`, which is refused since r0 is not set
 BAD = bytes.fromhex("9500000000000000")
