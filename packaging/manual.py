@@ -27,6 +27,8 @@ TYPED = re.compile(r"(?<![\w-])-[\w-]*")
 # of a usage or an entry, what stands for something else and what is typed
 WORD = re.compile(r"<([^>]+)>|[\w-]+")
 EXIT_STATUS = "The exit status is "
+# how the help names the values of options, and arguments, that are paths of files
+PATHS = ("FILE", "MAP", "IN", "OUT", "EVENTS")
 
 
 class Help(NamedTuple):
@@ -223,11 +225,12 @@ def listed(words):
 def case(command, text):
     """Returns the lines of the completion that say what a command takes."""
     rows = options_of(text)
+    has_files = any(term.strip("<>") in PATHS for term, _ in text.lists.get("Arguments", []))
     found = {
         "options": [name for names, _ in rows for name in names if name.startswith("--")],
-        "files": [names[-1] for names, value in rows if value == "FILE"],
-        "values": [names[-1] for names, value in rows if value not in ("", "FILE")],
-        "arguments": ["files"] if text.lists.get("Arguments") else [],
+        "files": [names[-1] for names, value in rows if value in PATHS],
+        "values": [names[-1] for names, value in rows if value and value not in PATHS],
+        "arguments": ["files"] if has_files else [],
     }
     said = "".join(f"    {name}={listed(words)}\n" for name, words in found.items() if words)
     return f"  {command})\n{said}    ;;"

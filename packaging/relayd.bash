@@ -8,46 +8,47 @@ _relayd() {
   case ${COMP_WORDS[1]} in
   assemble)
     options="--lines --help"
-    values="--lines"
+    files="--lines"
     arguments="files"
     ;;
   order)
     options="--lines --from --help"
-    values="--lines --from"
+    files="--lines --from"
     arguments="files"
     ;;
   disassemble)
     options="--slots --lines --help"
-    values="--lines"
+    files="--lines"
     arguments="files"
     ;;
   verify)
     options="--lines --help"
-    values="--lines"
+    files="--lines"
     arguments="files"
     ;;
   explain)
     options="--slot --lines --help"
-    values="--slot --lines"
+    files="--lines"
+    values="--slot"
     arguments="files"
     ;;
   graph)
     options="--lines --help"
-    values="--lines"
+    files="--lines"
     arguments="files"
     ;;
   trace)
     options="--data --side --source --tx --permit --channel --lines --help"
-    values="--data --side --source --tx --permit --channel --lines"
+    files="--lines"
+    values="--data --side --source --tx --permit --channel"
     arguments="files"
     ;;
   replay)
     options="--nonce --why --confine --trace --cover --client-lines --peer-lines --against --against-peer --realm --user \
       --users --secret --revoked --slots --user-slots --relay-ip --relay-ip6 --first-port --client --peer --same-as \
       --help"
-    files="--against --against-peer --users --secret --revoked --client --peer"
-    values="--nonce --trace --client-lines --peer-lines --realm --user --slots --user-slots --relay-ip --relay-ip6 \
-      --first-port --same-as"
+    files="--client-lines --peer-lines --against --against-peer --users --secret --revoked --client --peer"
+    values="--nonce --trace --realm --user --slots --user-slots --relay-ip --relay-ip6 --first-port --same-as"
     arguments="files"
     ;;
   serve)
@@ -62,7 +63,6 @@ _relayd() {
   check)
     options="--user --help"
     values="--user"
-    arguments="files"
     ;;
   esac
   # bash takes --option=value apart at the sign
