@@ -21,7 +21,7 @@ import tempfile
 import relaying
 from private_peers import DenyPrivate, answered, octets, private_rows, with_peers
 from lib.c_rules import IDIOMS
-from lib.program import PROGRAM, TOP, build, finish, run
+from lib.program import PASSED_OVER, PROGRAM, TOP, build, finish, run
 from relaying import IP6, PEERS6, SLOTS, USERS, compare, systematic, systematic6
 from lib.rules import ALLOCATE, DATA, XOR_PEER_ADDRESS, Rules, read
 
@@ -471,7 +471,10 @@ def main():
         kept = {name: COMPILED / f"{name}.bpf" for name in SIDES}
         failures += [*replayed(folder, kept, events), *answers_by_hand(folder), *verdicts_by_hand(), *session_of_page(folder)]
         environment = compiler()
-        passed_over = "" if environment else "; clang or LLVM's objcopy or readelf isn't there, and nothing was compiled"
+        if not environment:
+            PASSED_OVER.append("what is compiled (no clang, or no objcopy or readelf of LLVM)")
+        elif not shutil.which(GCC):
+            PASSED_OVER.append(f"what GCC compiles (no {GCC})")
         if environment:
             for part in (text_of_page, wrong_texts, idioms, exits, build_script):
                 failures += part(environment, folder)
@@ -485,7 +488,7 @@ def main():
                 count += len(SIDES)
     replays = collections.Counter(name for name, _, _ in events)
     return finish(failures, f"C programs: {len(kept)} kept ones, {sum(replays.values())} lists of events, {count} compiled, "
-                  f"{len(failures)} failures{passed_over}")
+                  f"{len(failures)} failures")
 
 
 if __name__ == "__main__":

@@ -20,7 +20,7 @@ import threading
 import time
 import urllib.request
 
-from lib.program import TOP, build, finish, preloadable
+from lib.program import PASSED_OVER, TOP, build, finish, preloadable
 from lib.rules import XOR_RELAYED_ADDRESS, address_in
 from lib.server import LOOPBACK, LOOPBACK6, Client, Server, replayed, sends, udp_socket, wanted
 
@@ -34,7 +34,7 @@ SECRET = "between-the-web-and-the-relay"
 # chance; both are refused. So a client that isn't refused, one of a hundred, is waited for, this often at each of so many
 # servers: the allocations of those that are refused last.
 TRIES, SERVERS = 150, 15
-PASSED_OVER = "not installed"
+NOT_INSTALLED = "not installed"
 # what the page of examples/web shows with the relay's secret, and how it begins with another one
 RELAYED = re.compile(
     r"From a relay candidate to another a message took \d+\.\d ms there and back\. "
@@ -91,7 +91,7 @@ def stunclient(server):
     """coturn's client of STUN: a Binding."""
     program = shutil.which("turnutils_stunclient")
     if program is None:
-        return PASSED_OVER
+        return NOT_INSTALLED
     _, printed = ran([program, "-p", server.port, "127.0.0.1"])
     return [] if re.search(r"reflexive addr: 127\.0\.0\.1:\d+", printed) else [printed]
 
@@ -103,7 +103,7 @@ def uclient(*mode):
     def exchanges(server):
         program = shutil.which("turnutils_uclient")
         if program is None:
-            return PASSED_OVER
+            return NOT_INSTALLED
         address = "::1" if "-x" in mode else "127.0.0.1"
         with echo(address) as peer:
             words = [program, "-c", "-u", "u", "-w", "p", "-n", 50, "-l", 160, "-z", 2, "-p", server.port, *mode]
@@ -138,14 +138,14 @@ def aioice(server, user=USER):
         with contextlib.suppress(OSError):
             if ran([python, "-c", "import aioice"])[0] == 0:
                 return exchanged(server, [python, HERE / "aioice_client.py", server.port, MESSAGES, *user])
-    return PASSED_OVER
+    return NOT_INSTALLED
 
 
 def pion(server, user=USER):
     """The client of pion, a library of Go: a Binding, messages by indications and over a channel, and the end."""
     go, library = shutil.which("go"), pathlib.Path("/usr/share/gocode")
     if go is None or not (library / "src" / "github.com" / "pion" / "turn").exists():
-        return PASSED_OVER
+        return NOT_INSTALLED
     with tempfile.TemporaryDirectory() as name:
         environment = {**os.environ, "GO111MODULE": "off", "GOPATH": str(library), "GOCACHE": f"{name}/cache"}
         program = f"{name}/client"
@@ -162,7 +162,7 @@ def chromium(server, user=USER):
     """A page in Chromium: two peer connections that may use relayed candidates alone, and a data channel."""
     program = chromium_program()
     if program is None:
-        return PASSED_OVER
+        return NOT_INSTALLED
     from chromium import exchange
     found = exchange(program, f"turn:127.0.0.1:{server.port}", *user, MESSAGES)
     return wanted("messages", found, {"returned": MESSAGES, "relayed": True})
@@ -182,7 +182,7 @@ def web_server(server, secret):
 def web_page(server):
     """The page of `examples/web` in Chromium, from the server beside it: with the relay's secret, and with another one."""
     program = chromium_program()
-    return PASSED_OVER if program is None else shown_by_page(server, program)
+    return NOT_INSTALLED if program is None else shown_by_page(server, program)
 
 
 def shown_by_page(server, program):
@@ -255,7 +255,7 @@ class Capture:
     def failures(self):
         """What is malformed among the datagrams of the capture, and whether there are any messages."""
         if self.process is None:
-            return PASSED_OVER
+            return NOT_INSTALLED
         self.grows()
         self.process.send_signal(signal.SIGINT)
         self.process.wait(10)
@@ -285,7 +285,7 @@ class Record:
         server.becomes("S")
         server.end()
         if not self.sent.exists():
-            return PASSED_OVER
+            return NOT_INSTALLED
         found = replayed(server, self.file, "--relay-ip6", LOOPBACK6.hex(), "--secret", server.secret)
         expected = sends(server, self.sent)
         if found == expected:
@@ -296,7 +296,7 @@ class Record:
 
 
 def tried(name, client, folder):
-    """What a client finds wrong with a server of its own, and what the capture and the record do; each may be `PASSED_OVER`."""
+    """What a client finds wrong with a server of its own, and what the capture and the record do; each may be `NOT_INSTALLED`."""
     record = Record(folder)
     secret = record.folder / "secret"
     secret.write_text(f"{SECRET}\n", encoding="utf-8")
@@ -305,14 +305,14 @@ def tried(name, client, folder):
         capture, server.secret = Capture(server.port, folder), secret
         try:
             found = client(server)
-            found = found if found == PASSED_OVER else list(found)
+            found = found if found == NOT_INSTALLED else list(found)
         except RefusedByChance:
             capture.failures()
             raise
         except (OSError, EOFError, ValueError, subprocess.SubprocessError) as error:
             found = [repr(error)]
         captured = capture.failures()
-        if found == PASSED_OVER:
+        if found == NOT_INSTALLED:
             return [(name, found)]
         found += wanted("standard error of the server", server.printed(), "")
         return [(name, found), ("a capture by tshark", captured), ("a replay of the record", record.failures(server))]
@@ -329,19 +329,18 @@ def tried_by_chance(name, client, folder):
 def main():
     """Runs every client that is there, and returns the exit status. With `--require` each has to be there."""
     build()
-    failures, absent = [], []
+    failures = []
     with tempfile.TemporaryDirectory() as folder:
         for name, client in CLIENTS:
             for part, found in tried_by_chance(name, client, folder):
-                if found == PASSED_OVER:
-                    absent.append(part)
+                if found == NOT_INSTALLED:
+                    PASSED_OVER.append(part)
                 else:
                     failures += [f"{name}, {part}: {failure}" for failure in found]
-    passed_over = f"; passed over: {', '.join(dict.fromkeys(absent))}" if absent else ""
-    ran_here = sum(name not in absent for name, _ in CLIENTS)
+    ran_here = sum(name not in PASSED_OVER for name, _ in CLIENTS)
     if "--require" in sys.argv[1:]:
-        failures += [f"{part}: not there" for part in dict.fromkeys(absent)]
-    return finish(failures, f"clients: {ran_here} of {len(CLIENTS)} ran, {len(failures)} failures{passed_over}")
+        failures += [f"{part}: not there" for part in dict.fromkeys(PASSED_OVER)]
+    return finish(failures, f"clients: {ran_here} of {len(CLIENTS)} ran, {len(failures)} failures")
 
 
 if __name__ == "__main__":

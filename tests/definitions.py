@@ -5,10 +5,11 @@ nothing internal, and docs/DEFINITIONS.md has the tables that are made of their 
 written there first. No two files define the same name, laws aside, and what a line of a page names in parentheses is in
 a file of definitions that it links. What a file of definitions names that docs/HEADLINE.md lists is listed there too,
 laws aside. Each file that a page links or names is there, unless it is one that a build makes (in a folder `out`), with
-as many lines as the page says. Each decision that the code names is on docs/DECISIONS.md or on docs/DESIGN.md, and each
-of theirs is named. The picture of docs/ARCHITECTURE.md is that of crates.txt, and the calls on the path of a datagram
-are those of the sources. There are no more test functions than CONTRIBUTING.md says, and no more edits that must fail
-in either folder of a crate, and each edit can be applied. No clause and no comment of the code is wider than its limit.
+as many lines as the page says. Each decision that the code or a page names is on the one of docs/DECISIONS.md and
+docs/DESIGN.md that it says, and the code names each of theirs. The picture of docs/ARCHITECTURE.md is that of
+crates.txt, and the calls on the path of a datagram are those of the sources. There are no more test functions than
+CONTRIBUTING.md says, and no more edits that must fail in either folder of a crate, and each edit can be applied. No
+clause and no comment of the code is wider than its limit.
 """
 
 import re
@@ -27,9 +28,9 @@ TABLE = re.compile(r"^\| Function \|.*\n\|[-| ]+\n((?:\|.*\n)+)", re.MULTILINE)
 FUNCTION = re.compile(r"`(?:\w+::)*([a-z]\w*[a-z0-9])(?:\(.*?\))?`")
 SEARCH = re.compile(r"`git grep -lw (\w+) crates`")
 LINKED = re.compile(r"\]\(([^)#:]*specs/[\w/]+\.antt)\)")
-# the pages of decisions, and how the code names decisions of either page, one or several
+# the pages of decisions, and how decisions of either page are named, one or several
 DECIDED = ("docs/DECISIONS.md", "docs/DESIGN.md")
-CITED = re.compile(r'docs/(?:DECISIONS|DESIGN)\.md((?:(?:,| and) "[^"]*")+)')
+CITED = re.compile(r'(docs/(?:DECISIONS|DESIGN)\.md)((?:(?:,| and) "[^"]*")+)')
 TEST = re.compile(r"^ *#\[test\]$", re.MULTILINE)
 EDIT = re.compile(r"^(file|old|new):(?: (.*))?$", re.MULTILINE)
 # what docs/HEADLINE.md quotes, and the files that have it
@@ -178,19 +179,27 @@ def failures_of_headline():
             yield f"docs/HEADLINE.md: {used}, which a clause of {function} names"
 
 
+def citations(files):
+    """Yields each decision that files name: the file, the page that it says, and the title."""
+    for file in files:
+        for page, cited in CITED.findall(file.read_text(encoding="utf-8")):
+            for title in re.findall(r'"([^"]*)"', cited):
+                yield file, page, title
+
+
 def failures_of_decisions():
-    """Yields the decisions that the code names and that neither page has, those that no code names, and those that are there twice."""
+    """Yields the decisions that the code or a page names and that aren't on the page that it says, those that no code names, and
+    those that are there twice."""
     pages_of = {}
     for page in DECIDED:
         for title in re.findall(r"^### (.*)$", (TOP / page).read_text(encoding="utf-8"), re.MULTILINE):
             pages_of.setdefault(title, []).append(page)
-    scripts = [path for folder in ("tests", "examples") for path in sorted((TOP / folder).glob("*.py"))]
-    named = {title: source for source in [*sources(), *scripts]
-             for cited in CITED.findall(source.read_text(encoding="utf-8"))
-             for title in re.findall(r'"([^"]*)"', cited)}
-    for title, source in named.items():
-        if title not in pages_of:
-            yield f"{source.relative_to(TOP)}: no decision {title}"
+    scripts = [path for folder in ("tests", "examples", "packaging") for path in sorted((TOP / folder).rglob("*.py"))]
+    of_code = list(citations([*sources(), *sorted(CRATES.rglob("*.antt")), *scripts]))
+    for file, page, title in [*of_code, *citations(pages())]:
+        if page not in pages_of.get(title, []):
+            yield f"{file.relative_to(TOP)}: no decision {title} on {page}"
+    named = {title for _, _, title in of_code}
     for title, found in pages_of.items():
         if title not in named:
             yield f"{found[0]}: no code names {title}"

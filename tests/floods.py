@@ -5,15 +5,18 @@ there. It is no part of the test command.
 
 100 sessions send 5,000 datagrams a second over channels to a peer, which sends 50 a second to the first of them, for some seconds
 without a flood and beside each: a stranger's garbage to clients' port, or to the relayed port of the first session, one session
-that sends as fast as it can, and a stranger's requests with a wrong password, each by processes that do nothing else. What doesn't
-come to the peer, or to the client of the first session, within a second is lost. Floods are faster on one machine than on another, so how many datagrams they sent
-is printed as well. Where there are four processors or more, the servers have one, and the sessions one.
+that sends as fast as it can, and a stranger's requests with a wrong password, each by a process that does nothing else. Another
+one reads what comes to the flood, and to the peer of the session that floods: a peer that is gone would have each datagram refused.
+What doesn't come to the peer of the 100 sessions, or to the client of the first one, within a second is lost. Floods are faster on
+one machine than on another, so how many datagrams they sent is printed as well. Where there are four processors or more, the servers
+have one, the sessions one, and the flood and what reads its answers the others.
 """
 
 import contextlib
 import itertools
 import multiprocessing
 import os
+import select
 import shutil
 import socket
 import sys
@@ -29,20 +32,19 @@ SESSIONS = 100
 RATE = 5_000  # datagrams a second, of all sessions
 SECONDS = 5
 SIZE = 172  # the bytes of a datagram of G.711 with its RTP header
-SERVER_CPU, SESSION_CPU = 2, 1
+SERVER_CPU, SESSION_CPU, FLOOD_CPUS = {2}, {1}, {0, 3}
 BUFFER = 1 << 22
 
 
-def on_processor(number, pid=0):
-    """Keeps a process on a processor, where there are four."""
+def on_processors(numbers, pid=0):
+    """Keeps a process on processors, where there are four."""
     if (os.cpu_count() or 1) >= 4:
-        os.sched_setaffinity(pid, {number})
+        os.sched_setaffinity(pid, numbers)
 
 
 def flood(datagrams, server, bound, stop, sent):
     """Sends datagrams to a server from a socket until it is stopped, and counts them."""
-    if (os.cpu_count() or 1) >= 4:
-        os.sched_setaffinity(0, {0, 3})
+    on_processors(FLOOD_CPUS)
     for count, datagram in enumerate(itertools.cycle(datagrams)):
         with contextlib.suppress(OSError):
             bound.sendto(datagram, server)
@@ -52,27 +54,39 @@ def flood(datagrams, server, bound, stop, sent):
                 return
 
 
-def garbage(server):
-    """A socket of a stranger, whose address nobody permits, and random bytes."""
-    return udp_socket(address="127.0.0.2"), [os.urandom(100) for _ in range(100)]
+def read_answers(sockets, stop):
+    """Reads what comes to sockets until it is stopped."""
+    on_processors(FLOOD_CPUS)
+    while not stop.is_set():
+        for bound in select.select(sockets, [], [], 0.1)[0]:
+            with contextlib.suppress(OSError):
+                bound.recv(2_000)
+
+
+# what each kind of flood has: its socket, the sockets to which something comes, and what it sends
+
+def garbage(_server):
+    """A stranger, whose address nobody permits, and random bytes."""
+    bound = udp_socket(address="127.0.0.2")
+    return bound, [bound], [os.urandom(100) for _ in range(100)]
 
 
 def busy_session(server):
-    """The socket of a session, and its data."""
+    """A session with its peer, and its data."""
     client = Client(server)
     sink = udp_socket()
     client.allocate()
     if code_of(client.bind(address_of(sink))) != 0:
         raise ValueError("no channel")
-    return client.socket, [channel_data(bytes(SIZE))]
+    return client.socket, [client.socket, sink], [channel_data(bytes(SIZE))]
 
 
 def wrong_passwords(server):
-    """A socket of a stranger, and requests under a key that is wrong."""
+    """A stranger, and requests under a key that is wrong."""
     client = Client(server, password="q")
     client.challenge()
     given = [UDP, (USERNAME, client.name), (REALM, b"relay"), (NONCE, client.nonce)]
-    return client.socket, [message(ALLOCATE, os.urandom(12), given, client.key) for _ in range(100)]
+    return client.socket, [client.socket], [message(ALLOCATE, os.urandom(12), given, client.key) for _ in range(100)]
 
 
 # what makes each, and whether it is sent to the relayed port of the first session
@@ -131,23 +145,25 @@ class Sessions:
 def measured(name, server, pid, seconds):
     """Prints what the sessions of a server lose beside each flood."""
     for thread in os.listdir(f"/proc/{pid}/task"):
-        on_processor(SERVER_CPU, int(thread))
+        on_processors(SERVER_CPU, int(thread))
     with contextlib.ExitStack() as stack:
         sessions = Sessions(server, stack)
         for title, (kind, is_relayed) in FLOODS.items():
             stop, sent = multiprocessing.Event(), multiprocessing.Value("q", 0)
-            process = None
+            processes = []
             if kind is not None:
-                bound, datagrams = kind(server)
+                bound, answered, datagrams = kind(server)
                 flooded = sessions.relayed if is_relayed else ("127.0.0.1", server.port)
-                process = multiprocessing.Process(target=flood, args=(datagrams, flooded, bound, stop, sent))
-                process.start()
+                processes = [multiprocessing.Process(target=read_answers, args=(answered, stop)),
+                             multiprocessing.Process(target=flood, args=(datagrams, flooded, bound, stop, sent))]
+                for process in processes:
+                    process.start()
                 time.sleep(0.2)
             began, at_first = time.monotonic(), sent.value
             lost, lost_back = sessions.lost(seconds)
             rate = (sent.value - at_first) / (time.monotonic() - began)
-            if process is not None:
-                stop.set()
+            stop.set()
+            for process in processes:
                 process.join()
             print(f"{name}, beside {title}: {lost:.2%} of the sessions' datagrams lost, and {lost_back:.2%} of the peer's, "
                   f"{rate:,.0f} a second sent by the flood", flush=True)
@@ -158,7 +174,7 @@ def main():
     """Prints a line for each server and each flood."""
     build()
     seconds = int(sys.argv[1]) if len(sys.argv) > 1 else SECONDS
-    on_processor(SESSION_CPU)
+    on_processors(SESSION_CPU)
     with Server(slots=SESSIONS + 1) as server:
         measured("relayd", server, server.process.pid, seconds)
     if shutil.which("turnserver"):

@@ -1,8 +1,9 @@
 """Runs the built relayd's `serve` among users, files and neighbours that would harm others.
 
 Peers and clients that nothing is sent to, a user who allocates through the server's own port, a standard error that nobody reads,
-files that are pipes, folders or too long, bursts, few file descriptors, and two processes that serve one port. All of it stays on
-loopback; where the system lets a process have a network of its own, clients come from other addresses there.
+files that are pipes, folders or too long, bursts, few file descriptors, at the start and for files that change, and two processes
+that serve one port. All of it stays on loopback; where the system lets a process have a network of its own, clients come from other
+addresses there.
 """
 
 import contextlib
@@ -20,8 +21,9 @@ import time
 from lib.program import PASSED_OVER, PROGRAM, run_parts
 from lib.rules import ALLOCATE, BINDING, CHANNEL_BIND, CHANNEL_NUMBER, CREATE_PERMISSION, message
 from lib.server import (
-    CHANNEL, LOOPBACK, UDP, USER, Client, Server, address_of, channel_data, code_of, comes, counters, fault_line,
-    free_ports, full_pipe, put, udp_socket, wanted)
+    CHANNEL, DISCARD, LOOPBACK, UDP, USER, Client, Server, address_of, channel_data, code_of, comes, counters, fault_line,
+    free_ports, full_pipe, passed, put, udp_socket, wanted)
+from serve import BOTH, sockets_of
 
 # networks of peers, those of the server's loopback addresses among them, and the addresses that are sent to all the same
 RULES = [
@@ -43,6 +45,9 @@ ODD_FILES = [("client", PASS, 32_768, ""), ("peer", PASS, 32_768, ""), ("users",
              ("secret", b"a secret of 16 b\n", 1 << 18, "not readable"), ("revoked", b"eve\n", 1 << 18, "not readable")]
 # a burst, and the length of each of its datagrams: more than the system's usual buffers hold
 BURST, LENGTH = 400, 1_200
+# the files that a server may have open: too few for the sockets of 16 slots; and enough for those of some slots, but not for one of each
+# of their clients and one of a peer of each
+TOO_FEW, FEW, FEW_SLOTS = 12, 64, 32
 # the sessions of two processes that serve one port, each with two channels
 SESSIONS = 64
 
@@ -145,18 +150,19 @@ def forged_clients():
         return
     for listen, answered in (("192.0.2.10", ["192.0.2.10"]), ("169.254.1.2", ["192.0.2.10", "169.254.1.2"]),
                              ("0.0.0.0", ["192.0.2.10", "169.254.1.2", "127.0.0.1"])):
-        ran = subprocess.run([*command, listen], stdout=subprocess.PIPE, text=True, check=False)
+        ran = subprocess.run([*command, listen, *answered], stdout=subprocess.PIPE, text=True, check=False)
         yield from wanted(f"clients that a server at {listen} answers", ran.stdout.split(), answered)
 
 
-def answers_from(listen):
-    """Prints the addresses of clients that a server answers which listens at an address."""
+def answers_from(listen, *answered):
+    """Prints the addresses of clients that a server answers which listens at an address: those that it should answer are given more
+    time."""
     command = [PROGRAM, "serve", *USER, "--listen", listen, "--relay-ip", "192.0.2.10", "--port", "3478"]
     with subprocess.Popen(command, stdout=subprocess.PIPE, stderr=subprocess.DEVNULL, text=True) as process:
         process.stdout.readline()
         for address in ("192.0.2.10", "169.254.1.2", "127.0.0.1"):
             with udp_socket(0, address) as client:
-                client.settimeout(0.5)
+                client.settimeout(5 if address in answered else 0.5)
                 client.sendto(message(BINDING, bytes(12), []), ("192.0.2.10" if listen == "0.0.0.0" else listen, 3478))
                 with contextlib.suppress(TimeoutError):
                     client.recv(100)
@@ -275,12 +281,13 @@ def made_into(path, good, most, missing):
 
 
 def bursts():
-    """Yields what is lost of a burst that comes while the server is stopped, and how the system's drops are counted."""
+    """Yields what is lost of a burst that comes while the server is stopped."""
     largest = int(pathlib.Path("/proc/sys/net/core/rmem_max").read_text())
     with Server("--stats", "1") as server, Client(server) as client, udp_socket() as peer:
         client.allocate()
         client.bind(address_of(peer))
         if largest < 4 << 20:
+            PASSED_OVER.append("a burst (net.core.rmem_max is below 4 MB)")
             yield from wanted("the line of buffers", server.all_printed().startswith("buffers of "), True)
             return
         # what is dropped at any socket is counted, so the peer has room for the burst too
@@ -291,12 +298,18 @@ def bursts():
         expected = counters(from_clients=3 + BURST, to_peers=BURST, granted=2, challenged=1)
         if not server.awaited(expected):
             yield f"other counters after a burst: {server.printed()!r}"
+
+
+def small_buffers():
+    """Yields how many datagrams of a burst are neither served nor counted as the system's drops, and whether some are dropped."""
     with Server("--stats", "1", "--buffer", "4096") as server, Client(server) as client:
         with server.stopped():
             for _ in range(100):
                 client.send(channel_data(bytes(LENGTH)))
-        time.sleep(0.5)
-        client.ask(BINDING, [])
+        # the buffer is empty once the server waits again; a request that is sent once is one datagram more
+        server.becomes("S")
+        client.send(message(BINDING, random.randbytes(12), []))
+        client.receive()
         came = dropped = 0
         end = time.monotonic() + 5
         while came + dropped != 101 and time.monotonic() < end:
@@ -307,18 +320,50 @@ def bursts():
         yield from wanted("that some were dropped", dropped > 0, True)
 
 
+def limit_files(most):
+    """Lets this process have so many files open."""
+    resource.setrlimit(resource.RLIMIT_NOFILE, (most, most))
+
+
 def few_descriptors():
     """Yields what is printed otherwise where the process may open few files."""
-    first = free_ports(16)
-
-    def limit():
-        resource.setrlimit(resource.RLIMIT_NOFILE, (12, 12))
-
-    words = [PROGRAM, "serve", "--port", "0", "--first-port", str(first), *USER, "--rounds", "0"]
-    ran = subprocess.run(words, capture_output=True, text=True, preexec_fn=limit, check=False)
+    words = [PROGRAM, "serve", "--port", "0", "--first-port", str(free_ports(16)), *USER, "--rounds", "0"]
+    ran = subprocess.run(words, capture_output=True, text=True, preexec_fn=lambda: limit_files(TOO_FEW), check=False)
     yield from wanted("the status", ran.returncode, 3)
     if not (ran.stderr.startswith("cannot bind 127.0.0.1:") and ran.stderr.endswith("\ntoo many open files\n")):
         yield f"printed {ran.stderr!r}"
+
+
+def descriptors_for_files():
+    """Yields what is otherwise where the process may open too few files for a socket of each client that has an allocation and of each
+    peer that a channel is bound to: those without one are served, and files that change are read."""
+    with tempfile.TemporaryDirectory() as name, contextlib.ExitStack() as stack:
+        users, program = pathlib.Path(name) / "users", pathlib.Path(name) / "client"
+        put(users, b"ann:a\n")
+        put(program, PASS)
+        words = ["--users", str(users), "--client", str(program)]
+        server = stack.enter_context(Server(*words, slots=FEW_SLOTS, preexec_fn=lambda: limit_files(FEW)))
+        before = sockets_of(server)
+        peer = stack.enter_context(udp_socket())
+        # one slot is for the new user
+        clients = [stack.enter_context(Client(server)) for _ in range(FEW_SLOTS - 1)]
+        for client in clients:
+            yield from wanted("an allocation", code_of(client.allocate()), 0)
+            yield from wanted("a channel", code_of(client.bind(address_of(peer))), 0)
+        server.becomes("S")
+        if not 0 < sockets_of(server) - before < 2 * len(clients):
+            yield f"{sockets_of(server) - before} sockets of {len(clients)} clients, and of a peer of each"
+        for slot in (0, len(clients) - 1):
+            yield from wanted(f"data of slot {slot}", passed(server, clients[slot], peer, BOTH, slot), BOTH)
+        put(users, b"ann:a\nbob:b\n")
+        line = "users replaced, 3 users\n"
+        yield from wanted("how often users were replaced", server.awaited(line), 1)
+        bob = stack.enter_context(Client(server, "bob", "b"))
+        yield from wanted("an allocation of a new user", code_of(bob.allocate()), 0)
+        put(program, DISCARD)
+        line += f"loaded {program}\n"
+        yield from wanted("how often a program was replaced as well", server.awaited(line), 1)
+        yield from wanted("lines", server.printed(), line)
 
 
 def shared_port():
@@ -357,9 +402,9 @@ def shared_port():
 def main():
     """Runs every part, or asks a server at an address, and returns the exit status."""
     if len(sys.argv) > 1:
-        return answers_from(sys.argv[1])
+        return answers_from(*sys.argv[1:])
     parts = [denied_peers, never_sent, own_services, loopback_behind_all_addresses, forged_clients, loops, unread_errors, few_fault_lines, odd_files,
-             bursts, few_descriptors, shared_port]
+             bursts, small_buffers, few_descriptors, descriptors_for_files, shared_port]
     return run_parts("hostile", parts)
 
 

@@ -41,19 +41,24 @@ CALLED = ("adduser", "chmod", "chown", "rm", "rmdir", "systemctl", "systemd-sysu
 ADDUSER = "adduser --system --group --home /nonexistent --no-create-home --quiet relayd"
 RIGHTS = ["chown root:relayd /etc/relayd /etc/relayd/users", "chmod 750 /etc/relayd", "chmod 640 /etc/relayd/users"]
 UNLINKED = "rm -f /etc/systemd/system/multi-user.target.wants/relayd.target"
-# each call of a script, the programs that aren't there, and what it calls; systemctl, and what depends on a folder, aside
+EMPTIED = "rmdir --ignore-fail-on-non-empty /etc/relayd"
+RELOADED, STOPPED = "systemctl daemon-reload", "systemctl stop relayd.target relayd@*.service"
+# the folders that the scripts look for, and what they call where one is there
+FOLDERS = {"/run/systemd/system": (RELOADED, STOPPED), "/etc/relayd": (EMPTIED,)}
+# each call of a script, the programs that aren't there, and what it calls where these folders are there
 CALLS = [
-    ("postinst configure", (), ["systemd-sysusers relayd.conf", *RIGHTS]),
-    ("postinst configure 0.1.0", (), ["systemd-sysusers relayd.conf"]),
-    ("postinst configure", ("systemd-sysusers",), [ADDUSER, *RIGHTS]),
+    ("postinst configure", (), ["systemd-sysusers relayd.conf", *RIGHTS, RELOADED]),
+    ("postinst configure 0.1.0", (), ["systemd-sysusers relayd.conf", RELOADED]),
+    ("postinst configure", ("systemd-sysusers",), [ADDUSER, *RIGHTS, RELOADED]),
     ("postinst abort-upgrade 0.1.0", (), []),
-    ("prerm remove", (), []),
+    ("prerm remove", (), [STOPPED]),
     ("prerm upgrade 0.1.0", (), []),
-    ("postrm remove", (), []),
-    ("postrm upgrade 0.1.0", (), []),
-    ("postrm purge", (), [UNLINKED]),
+    ("postrm remove", (), [RELOADED]),
+    ("postrm upgrade 0.1.0", (), [RELOADED]),
+    ("postrm purge", (), [UNLINKED, EMPTIED, RELOADED]),
 ]
-NOTE = '#!/bin/sh\necho "${0##*/} $*" >>"$CALLS"\n'
+# notes how it is called; systemctl fails besides, which fails no script
+NOTE = '#!/bin/sh\necho "${0##*/} $*" >>"$CALLS"\n[ "${0##*/}" != systemctl ]\n'
 # the tools that warn of what is wrong in a manual page
 READERS = ["mandoc -T lint -W warning", "man --warnings --encoding=UTF-8 --local-file -Tutf8 -Z"]
 # words of a command line, the last of which is completed, and what it is completed to
@@ -64,13 +69,18 @@ COMPLETED = [
     ("relayd serve --li", ["--listen", "--listen6"]),
     ("relayd serve --users here.u", ["here.users"]),
     ("relayd serve --users = here.u", ["here.users"]),
-    ("relayd serve --users =", ["here.users", "program.bpf"]),
+    ("relayd serve --users =", ["here.users", "kept", "program.bpf"]),
+    ("relayd serve --record ke", ["kept"]),
+    ("relayd serve --client kept/", ["kept/old.bpf"]),
     ("relayd serve --port ", []),
     ("relayd serve here", []),
     ("relayd replay --confine prog", ["program.bpf"]),
+    ("relayd replay --client-lines prog", ["program.bpf"]),
+    ("relayd order --from = kept/", ["kept/old.bpf"]),
     ("relayd explain --slot ", []),
     ("relayd explain --s", ["--slot"]),
-    ("relayd verify ", ["here.users", "program.bpf"]),
+    ("relayd verify ", ["here.users", "kept", "program.bpf"]),
+    ("relayd check here", []),
 ]
 COMPLETE = 'source "$1"; COMP_WORDS=("${@:2}"); COMP_CWORD=$(($# - 2)); _relayd; printf "%s\\n" "${COMPREPLY[@]}"'
 
@@ -118,10 +128,10 @@ def warnings(*_):
 
 
 def completion(_, folder):
-    """The completion of bash has the commands, their options, and files where the help has one."""
+    """The completion of bash has the commands, their options, and paths where the help has a file."""
     place = folder / "completion"
-    place.mkdir()
-    for name in ("here.users", "program.bpf"):
+    (place / "kept").mkdir(parents=True)
+    for name in ("here.users", "program.bpf", "kept/old.bpf"):
         (place / name).touch()
     for line, wanted in COMPLETED:
         words = ["bash", "-c", COMPLETE, "bash", PACKAGING / "relayd.bash", *line.split(" ")]
@@ -198,21 +208,33 @@ def information(program, folder):
         yield "the users' file isn't one that an upgrade keeps"
 
 
+def calls_of(control, words, lacking, absent, place):
+    """Returns what a script of the package calls: programs that note it, without those that are lacking, are all that is in its PATH.
+    Of the folders that it looks for each is there but one, whatever this machine has."""
+    (place / "bin").mkdir()
+    (place / "calls").touch()
+    for name in set(CALLED) - set(lacking):
+        (place / "bin" / name).write_text(NOTE, encoding="utf-8")
+        (place / "bin" / name).chmod(0o755)
+    text = (control / words[0]).read_text(encoding="utf-8")
+    for path in FOLDERS:
+        text = text.replace(f"[ -d {path} ]", f"[ -d {place / 'absent' if path == absent else place} ]")
+    (place / "script").write_text(text, encoding="utf-8")
+    (place / "script").chmod((control / words[0]).stat().st_mode)
+    output(place / "script", *words[1:], env={"PATH": str(place / "bin"), "CALLS": str(place / "calls")})
+    return (place / "calls").read_text(encoding="utf-8").splitlines()
+
+
 def scripts(program, folder):
-    """The scripts of the package call what they should: programs that note it are all that is in their PATH."""
-    for number, (call, lacking, wanted) in enumerate(CALLS):
-        place = folder / f"bin{number}"
-        place.mkdir()
-        for name in set(CALLED) - set(lacking):
-            (place / name).write_text(NOTE, encoding="utf-8")
-            (place / name).chmod(0o755)
-        script, *words = call.split()
-        calls = folder / f"calls{number}"
-        calls.touch()
-        output(unpacked(program, folder) / "DEBIAN" / script, *words, env={"PATH": str(place), "CALLS": str(calls)})
-        found = [line for line in calls.read_text(encoding="utf-8").splitlines() if not line.startswith(("systemctl", "rmdir"))]
-        if found != wanted:
-            yield f"{call}: {found}, and {wanted} is wanted"
+    """The scripts of the package call what they should, with each folder that they look for and without it."""
+    for call, lacking, wanted in CALLS:
+        for absent in (None, *FOLDERS):
+            left_out = FOLDERS.get(absent, ())
+            expected = [line for line in wanted if line not in left_out]
+            with tempfile.TemporaryDirectory(dir=folder) as name:
+                found = calls_of(unpacked(program, folder) / "DEBIAN", call.split(), lacking, absent, pathlib.Path(name))
+            if found != expected:
+                yield f"{call} without {[*lacking, absent]}: {found}, and {expected} is wanted"
 
 
 def lint(program, folder):

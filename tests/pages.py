@@ -18,7 +18,7 @@ import sys
 import tempfile
 import time
 
-from lib.program import TOP, finish, run
+from lib.program import PASSED_OVER, TOP, finish, run
 from lib.server import Server
 
 PAGES = [TOP / "README.md", *sorted((TOP / "docs").glob("*.md")), *sorted((TOP / "crates").glob("*/README.md"))]
@@ -125,6 +125,7 @@ def failures_of_units():
     """Yields what systemd says of the units, with a program that is there in place of relayd."""
     tool = shutil.which("systemd-analyze")
     if tool is None:
+        PASSED_OVER.append("the units (no systemd-analyze)")
         return
     with tempfile.TemporaryDirectory() as name:
         units = [pathlib.Path(name) / unit for unit in ("relayd@.service", "relayd.target")]

@@ -1,8 +1,9 @@
 """Replays what the built relayd's `serve --record` has recorded, and compares the answers with what came to clients and to peers,
 byte for byte, and with every datagram that the server has sent, in order.
 
-Sessions over both families with nonces that are replaced; batches that are received ahead; the end of a recording by a write that
-fails, by a program and by users; and how a server is stopped. What was sent, and receives that fail, need gcc.
+Sessions over both families with nonces that are replaced; batches that are received ahead; names that expire, and one that is
+revoked; the end of a recording by a write that fails, by a program, by users, by a secret and by users that are revoked; and how a
+server is stopped. What was sent, and receives that fail, need gcc.
 """
 
 import contextlib
@@ -23,12 +24,20 @@ from lib.server import (
     BAD, DISCARD, LOOPBACK6, PERIOD, Client, Server, address_of, channel_data, code_of, fault_line, put, replayed, sends,
     udp_socket, wanted)
 from serve import FAMILY6, preloading
+from time_limited import FORMER, SECRET, codes, expiring, refreshed
 
 # the bytes that a record may have until a write fails, the system's error then (EFBIG), and the datagrams that are sent
 MOST_BYTES, TOO_LARGE, DATAGRAMS = 20_000, 27, 40
 # batches that a busy server receives ahead; the long ones have more lines than are kept until they are written
 SMALL = [b"%d" % number for number in range(40)]
 LARGE = [bytes([number]) * 45_000 for number in range(4)]
+# the files of names that expire, by their options; and what ends a recording with them: the file that changes, a text that is refused
+# and one that isn't, each with its line, and the reason
+NAMES = {"secret": SECRET, "revoked": b"eve\n"}
+CHANGED_NAMES = [
+    ("secret", b"short", "a secret that hasn't 16 to 128 bytes", FORMER, "secret replaced, 1 secrets", "the secret is replaced"),
+    ("revoked", b"1:eve\n", "line 1: a name with a colon", b"eve\nann\n", "users revoked, 2 users", "users are revoked"),
+]
 
 
 # ---- what comes to clients and to peers
@@ -51,8 +60,8 @@ class Heard:
 class HeardClient(Client):
     """A client of which each receive is heard, and that signs a request anew where its nonce was replaced."""
 
-    def __init__(self, server, heard):
-        super().__init__(server)
+    def __init__(self, server, heard, *user):
+        super().__init__(server, *user)
         self.heard = heard
 
     def receive(self):
@@ -337,9 +346,46 @@ def users():
         yield from wanted("the answers before", replayed(server, path, "--users", old), before)
 
 
+def secrets_and_revoked():
+    """Yields what is recorded otherwise than until the secret is replaced, or other users are revoked, and what a replay answers
+    otherwise, which finds a name expired that was good."""
+    for option, *changes in CHANGED_NAMES:
+        with tempfile.TemporaryDirectory() as name, contextlib.ExitStack() as stack:
+            files = {given: pathlib.Path(name) / given for given in NAMES}
+            for given, file in files.items():
+                put(file, NAMES[given])
+                shutil.copy(file, f"{file}.old")
+            words = [word for given, file in files.items() for word in (f"--{given}", str(file))]
+            path, server, heard = stack.enter_context(recorded(*words, slots=4))
+            before = yield from changed_names(stack, path, server, heard, files[option], *changes)
+            old = [word if word.startswith("--") else f"{word}.old" for word in words]
+            yield from wanted(f"the answers before another {option}", replayed(server, path, *old), before)
+
+
+def changed_names(stack, path, server, heard, file, bad, fault, good, line, why):
+    """Yields what a server answers otherwise than said to names that expire, and what it prints where a file of these changes: to a
+    text that is refused, and then to one that ends the recording; returns what came before that."""
+    users = [expiring(2), expiring(600), expiring(600, ":ben"), expiring(600, ":eve")]
+    clients = [stack.enter_context(HeardClient(server, heard, *user)) for user in users]
+    yield from wanted("allocations", [codes(client) for client in clients], [0, 0, 0, 401])
+    put(file, bad)
+    fault = f"cannot use {file}: {fault}\n"
+    yield from wanted("how often a text is refused", server.awaited(fault), 1)
+    time.sleep(2)
+    yield from wanted("who has expired, with an allocation", refreshed(clients[0]), 0)
+    yield from wanted("another one", codes(stack.enter_context(HeardClient(server, heard, *users[0]))), 401)
+    before = list(heard.lines)
+    put(file, good)
+    ended = f"{line}\nrecording to {path} ended: {why}\n"
+    yield from wanted("how often it ended", server.awaited(ended), 1)
+    yield from wanted("lines", server.printed(), f"{fault}{ended}")
+    yield from wanted("a refresh afterwards", refreshed(clients[1]), 401)
+    return before
+
+
 def main():
     """Runs every part, and returns the exit status."""
-    parts = [session, batches, datagrams_sent, failed_receives, not_sent, full_file, long_file, programs, users]
+    parts = [session, batches, datagrams_sent, failed_receives, not_sent, full_file, long_file, programs, users, secrets_and_revoked]
     return run_parts("recording", parts)
 
 

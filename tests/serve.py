@@ -104,7 +104,7 @@ def refused_lines():
         bad.write_bytes(BAD)
         missing = f"{name}/missing"
         port = ["--port", taken]
-        free = str(free_ports(2))
+        free = str(free_ports(16))  # those of all slots by default
         good_port = ["--port", "0", "--first-port", free, "--slots", "1"]
         value = "error: invalid value '{}' for '{}'\n".format
         in_use = "cannot bind {}\naddress in use\n".format
@@ -487,6 +487,18 @@ def sockets_become(server, count):
     return sockets_of(server)
 
 
+def closed_sockets(server, client, before):
+    """Yields what is otherwise where a client gives its allocation up: its own socket and that of its peer are closed, so that as many
+    are open as before, and no fault was printed."""
+    yield from wanted("a Refresh to 0", code_of(client.signed(REFRESH, [(LIFETIME, bytes(4))])), 0)
+    time.sleep(1.2 * PERIOD)
+    # a server looks when something comes, and closes no socket at which a datagram waits
+    with Client(server) as other:
+        yield from wanted("another client's request", code_of(other.ask(BINDING, [])), 0)
+    yield from wanted("sockets afterwards", sockets_become(server, before), before)
+    yield from wanted("faults", server.printed(), "")
+
+
 def own_sockets():
     """Yields what is lost of a client with an allocation, or isn't put right, where strangers fill the buffer of the socket that they
     send to, and where the client's machine refuses what is sent to it."""
@@ -515,14 +527,8 @@ def own_sockets():
         yield from wanted("and from the client", peer.recv(100), b"again")
         peer.sendto(b"and back", ("127.0.0.1", server.first_port))
         yield from wanted("and back", client.receive(), channel_data(b"and back"))
-        yield from wanted("a Refresh to 0", code_of(client.signed(REFRESH, [(LIFETIME, bytes(4))])), 0)
-        time.sleep(1.2 * PERIOD)
-        # a server looks when something comes, and closes no socket at which a datagram waits
-        with Client(server) as other:
-            yield from wanted("another client's request", code_of(other.ask(BINDING, [])), 0)
-        yield from wanted("sockets afterwards", sockets_become(server, before), before)
+        yield from closed_sockets(server, client, before)
         yield from wanted("a request afterwards", code_of(client.ask(BINDING, [])), 0)
-        yield from wanted("faults", server.printed(), "")
 
 
 def own_sockets_of_peers():
@@ -563,12 +569,7 @@ def own_sockets_of_peers():
             yield from wanted("after refused datagrams", peer.recvfrom(100), (b"at once", relayed))
             peer.sendto(b"and back", relayed)
             yield from wanted("and back", client.receive(), channel_data(b"and back"))
-        yield from wanted("a Refresh to 0", code_of(client.signed(REFRESH, [(LIFETIME, bytes(4))])), 0)
-        time.sleep(1.2 * PERIOD)
-        with Client(server) as late:
-            yield from wanted("another client's request", code_of(late.ask(BINDING, [])), 0)
-        yield from wanted("sockets afterwards", sockets_become(server, before), before)
-        yield from wanted("faults", server.printed(), "")
+        yield from closed_sockets(server, client, before)
 
 
 def no_family6():

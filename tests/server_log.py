@@ -1,7 +1,7 @@
 """Runs the built relayd's `serve --log`: what it prints of allocations that are made and that end, and of refused credentials.
 
-Lines of sessions, of names that are no plain text, of users that are replaced, of lifetimes that pass (by clocks that are set, which
-needs gcc), and of more than a second may have; and a terminal that nobody reads.
+Lines of sessions, of names that are no plain text, of users that are replaced or revoked, of lifetimes that pass (by clocks that are
+set, which needs gcc), and of more than a second may have; and a terminal that nobody reads.
 """
 
 import contextlib
@@ -20,6 +20,7 @@ from clock import MONOTONIC, REAL, SECOND, WHOLE, Clocks
 from lib.program import PASSED_OVER, run_parts
 from lib.rules import ALLOCATE, BINDING, LIFETIME, NONCE, REALM, REFRESH, USERNAME, message
 from lib.server import PERIOD, UDP, Client, Server, code_of, put, wanted
+from time_limited import SECRET, codes, expiring, refreshed
 
 # the lines of refusals that a second may have, of users that there are and of others each, and the requests of a burst
 MOST, BURST = 20, 160
@@ -141,6 +142,36 @@ def replaced_users():
         yield from printed_is(server, "the lines of replaced users", lines)
 
 
+def revoked_users():
+    """Yields what is otherwise where a user is revoked: its allocations end, those under names that expire too, and who has its
+    password is unknown, until the file doesn't name it any more."""
+    with tempfile.TemporaryDirectory() as folder, contextlib.ExitStack() as stack:
+        secret, revoked = pathlib.Path(folder) / "secret", pathlib.Path(folder) / "revoked"
+        put(secret, SECRET)
+        put(revoked, b"")
+        words = ["--log", "--secret", str(secret), "--revoked", str(revoked), "--user", "ann:a", "--user", "ben:b"]
+        server = stack.enter_context(Server(*words, slots=3, users=()))
+        users = [("ann", "a"), expiring(600), ("ben", "b")]
+        clients = [stack.enter_context(Client(server, *user)) for user in users]
+        yield from wanted("allocations", [codes(client) for client in clients], [0, 0, 0])
+        lines = [made(server, client, name, slot) for slot, (client, (name, _)) in enumerate(zip(clients, users))]
+        put(revoked, b"# since today\nann\n")
+        ends = [(slot, client, users[slot][0]) for slot, client in enumerate(clients[:2])]
+        lines += ["users revoked, 1 users\n", *(ended(server, client, "its user was revoked", name, slot) for slot, client, name in ends)]
+        yield from printed_is(server, "the lines of a revoked user", lines)
+        yield from wanted("refreshes", [refreshed(client) for client in clients], [401, 401, 0])
+        lines += [refused(client, f'"{name}"', "unknown user") for _, client, name in ends]
+        guesser = stack.enter_context(Client(server, "ann", "wrong"))
+        yield from wanted("a wrong password", codes(guesser), 401)
+        lines.append(refused(guesser, '"ann"', "wrong password"))
+        yield from printed_is(server, "the lines of refused requests", lines)
+        put(revoked, b"")
+        lines.append("users revoked, 0 users\n")
+        yield from printed_is(server, "the line of a file that names nobody", lines)
+        yield from wanted("another allocation", codes(clients[0]), 0)
+        yield from printed_is(server, "the lines of who may come again", [*lines, made(server, clients[0], "ann")])
+
+
 def lifetimes():
     """Yields what is otherwise where a lifetime passes."""
     if not shutil.which("gcc"):
@@ -247,7 +278,8 @@ def unread_terminal():
 
 def main():
     """Runs every part, and returns the exit status."""
-    return run_parts("the log of a server", [sessions, credentials, replaced_users, lifetimes, bursts, others_lines, unread_terminal])
+    parts = [sessions, credentials, replaced_users, revoked_users, lifetimes, bursts, others_lines, unread_terminal]
+    return run_parts("the log of a server", parts)
 
 
 if __name__ == "__main__":

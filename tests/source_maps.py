@@ -14,7 +14,7 @@ import sys
 import tempfile
 from pathlib import Path
 
-from lib.program import PROGRAM, TOP, run, run_parts
+from lib.program import PASSED_OVER, PROGRAM, TOP, run, run_parts
 
 SEEDS = 100
 BLOCKS = TOP / "examples" / "shared_block.s"
@@ -179,7 +179,7 @@ def moved(folder):
 def in_c(folder):
     """Compiles rules with mistakes, and one without, and compares in which line of C each refusal ends."""
     if missing := [name for variable, name in TOOLS.items() if not shutil.which(os.environ.get(variable, name))]:
-        print(f"source_maps: {', '.join(missing)} aren't there: no rule in C is compiled")
+        PASSED_OVER.append(f"rules in C (no {', no '.join(missing)})")
         return
     build = TOP / "examples" / "c" / "build.sh"
     for text, refusal, line in MISTAKES:

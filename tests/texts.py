@@ -15,7 +15,7 @@ import sys
 import tempfile
 from typing import NamedTuple
 
-from lib.program import TOP, finish, run
+from lib.program import PASSED_OVER, TOP, finish, run
 
 # a text, what `assemble` prints of it to standard error; the status is 1
 REFUSED = [
@@ -332,6 +332,9 @@ def failures_of_picture():
 def failures_of_graphs(folder):
     """Yields the graphs that are not the worked ones, or that Graphviz doesn't read where it is installed."""
     file, lines, picture = folder / "program.bpf", folder / "program.lines", folder / "program.svg"
+    has_graphviz = shutil.which("dot")
+    if not has_graphviz:
+        PASSED_OVER.append("pictures of graphs (no dot)")
     for graph in GRAPHS:
         assembled(folder, graph.text.encode())
         lines.write_text(graph.source_map, encoding="utf-8")
@@ -339,7 +342,7 @@ def failures_of_graphs(folder):
         got = run(["graph", file, *(["--lines", lines] if graph.source_map else [])])
         if got != (1 if graph.err else 0, wanted, graph.err):
             yield f"the graph of {graph.text!r}: {got}"
-        if shutil.which("dot"):
+        if has_graphviz:
             drawn = subprocess.run(["dot", "-Tsvg", "-o", picture], input=wanted, text=True, capture_output=True, check=False)
             blocks = picture.read_text(encoding="utf-8").count('class="node"')
             if drawn.stderr or blocks != wanted.count('\n"];') or texts_of(picture) != labels_of(wanted):

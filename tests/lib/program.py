@@ -4,13 +4,14 @@ import functools
 import pathlib
 import subprocess
 import sys
+import traceback
 
 TOP = pathlib.Path(__file__).resolve().parents[2]
 # the script that proves and builds relayd where it is not there or too old
 BUILD = TOP / "tests" / "build.sh"
 # the program itself, for a test that restricts the process
 PROGRAM = TOP / "crates" / "relayd" / "out" / "relayd"
-# what can't be tried here, each with its reason
+# what can't be tried here, each with its reason; the last line of a test has it
 PASSED_OVER = []
 
 
@@ -62,20 +63,25 @@ def explained(path):
 
 def run_parts(name, parts, *given, summary="", program=None):
     """Runs the parts of a test, each of which yields what is wrong, prints that and a line that sums it up, and returns the exit
-    status. A part that ends by an error has failed. The program is built first, unless the parts are over another one."""
+    status. The program is built first, unless the parts are over another one."""
     if program is None:
         build()
-    failures = []
-    for part in parts:
-        try:
-            failures += [f"{part.__name__}: {failure}" for failure in part(*given)]
-        except (OSError, ValueError, AttributeError, RuntimeError, subprocess.TimeoutExpired) as error:
-            failures.append(f"{part.__name__}: {error!r}")
-    passed_over = f"; passed over: {', '.join(PASSED_OVER)}" if PASSED_OVER else ""
-    return finish(failures, f"{name}: {summary}{len(parts)} parts, {len(failures)} failures{passed_over}")
+    failures = [failure for part in parts for failure in failures_of(part, given)]
+    return finish(failures, f"{name}: {summary}{len(parts)} parts, {len(failures)} failures")
+
+
+def failures_of(part, given):
+    """Yields what a part of a test finds wrong, under its name, and the error that it ends by, if it does: the others run all the
+    same."""
+    try:
+        for failure in part(*given):
+            yield f"{part.__name__}: {failure}"
+    except (Exception, SystemExit):
+        yield f"{part.__name__}: {traceback.format_exc()}"
 
 
 def finish(failures, summary):
-    """Prints the failures and a line that sums them up, and returns the exit status."""
-    print("\n".join([*failures, summary]))
+    """Prints the failures and a line that sums them up, with what was passed over, and returns the exit status."""
+    passed_over = f"; passed over: {', '.join(dict.fromkeys(PASSED_OVER))}" if PASSED_OVER else ""
+    print("\n".join([*failures, f"{summary}{passed_over}"]))
     return 1 if failures else 0
