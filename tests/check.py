@@ -4,19 +4,27 @@
 """
 
 import contextlib
+import os
 import re
+import signal
+import socket
+import subprocess
 import sys
 import threading
+import time
 
-from lib.program import run_parts
+from lib.program import PROGRAM, run_parts
 from lib.rules import (
-    ALLOCATE, BINDING as BINDING_REQUEST, CREATE_PERMISSION, DATA, DATA_INDICATION, ERROR_CODE, LIFETIME, NONCE, REALM, REFRESH,
-    SEND, USERNAME, XOR_MAPPED_ADDRESS, XOR_PEER_ADDRESS, XOR_RELAYED_ADDRESS, address_in, address_value, message, read)
-from lib.server import LOOPBACK, USER, Client, Server, address_of, run, udp_socket, wanted
+    ALLOCATE, BINDING as BINDING_REQUEST, CREATE_PERMISSION, DATA, DATA_INDICATION, ERROR_CODE, FAMILY, LIFETIME, NONCE, REALM,
+    REFRESH, SEND, USERNAME, XOR_MAPPED_ADDRESS, XOR_PEER_ADDRESS, XOR_RELAYED_ADDRESS, address_in, address_value, message, read)
+from lib.server import LOOPBACK, LOOPBACK6, USER, Client, Server, address_of, run, udp_socket, wanted
 
 # how long a step took, in the lines of a check
 TOOK = re.compile(r"\d+\.\d ms")
 BINDING_ERROR = 0x0111
+# an address that nothing can be sent to, and what a check says of it
+NOWHERE = LOOPBACK, 0
+UNSENT = "no answer to a datagram to the relayed address\n"
 
 
 def checked(port, *more):
@@ -105,16 +113,116 @@ def others():
 
 
 def answers_of(request, client, relayed):
-    """The class of the response to a request of a check, and its attributes: an Allocate request without a user is answered 401."""
+    """The class of the response to a request of a check, and its attributes, with this relayed address: an Allocate request without a
+    user is answered 401."""
     tx = request.transaction_id
     if request.kind == ALLOCATE and request.first(USERNAME) is None:
         return 0x0110, [(ERROR_CODE, bytes([0, 0, 4, 1])), (REALM, b"r"), (NONCE, b"n")]
     return 0x0100, {
         BINDING_REQUEST: [(XOR_MAPPED_ADDRESS, address_value((LOOPBACK, client[1]), tx))],
-        ALLOCATE: [(XOR_RELAYED_ADDRESS, address_value(address_of(relayed), tx)), (LIFETIME, bytes([0, 0, 2, 88]))],
+        ALLOCATE: [(XOR_RELAYED_ADDRESS, address_value(relayed, tx)), (LIFETIME, bytes([0, 0, 2, 88]))],
         CREATE_PERMISSION: [],
         REFRESH: [],
     }[request.kind]
+
+
+@contextlib.contextmanager
+def replying(reply, family=socket.AF_INET):
+    """The port of a socket of loopback that answers requests, and the kinds of those that have come: `reply` makes the class of a
+    response and its attributes of a request and its source."""
+    kinds = []
+    with socket.socket(family, socket.SOCK_DGRAM) as bound:
+        bound.bind(("127.0.0.1" if family == socket.AF_INET else "::1", 0))
+
+        def serve():
+            while datagram := (came := bound.recvfrom(2_000))[0]:
+                request = read(datagram)
+                kinds.append(request.kind)
+                response, attributes = reply(request, came[1])
+                bound.sendto(message(response | request.kind, request.transaction_id, attributes), came[1])
+        thread = threading.Thread(target=serve)
+        thread.start()
+        try:
+            yield bound.getsockname()[1], kinds
+        finally:
+            # an empty datagram ends it
+            bound.sendto(b"", bound.getsockname())
+            thread.join()
+
+
+def error(code, *more):
+    """The class of an error response, and its attributes."""
+    return 0x0110, [(ERROR_CODE, bytes([0, 0, code // 100, code % 100])), *more]
+
+
+def stale_nonces():
+    """Yields what a check says otherwise of a server that replaces its nonce after each request that it grants: each is asked once
+    more, with the new one."""
+    nonces = [b"n"]
+
+    def reply(request, client):
+        if request.first(USERNAME) is not None:
+            if request.first(NONCE) != nonces[-1]:
+                return error(438, (REALM, b"r"), (NONCE, nonces[-1]))
+            nonces.append(nonces[-1] + b"n")
+        return answers_of(request, client, NOWHERE)
+    with replying(reply) as (port, kinds):
+        status, out, err = checked(port, *USER)
+    yield from wanted("the status and the line", (status, err), (1, UNSENT))
+    yield from wanted("the last step that works", out.splitlines()[-1:], ["CreatePermission, T"])
+    yield from wanted("the requests", kinds, [BINDING_REQUEST, ALLOCATE, ALLOCATE, *[CREATE_PERMISSION] * 2, *[REFRESH] * 2])
+
+
+def ended():
+    """Yields where a check leaves an allocation that it was given: the response says no lifetime, or an address that can't be sent
+    to, or nobody reads any more what the check prints."""
+    ends = os.pipe()
+    for name, left_out, read_end, status, err in (
+            ("no lifetime", LIFETIME, None, 1, "Allocate: not a response to it\n"),
+            ("a relayed address without a port", None, None, 1, UNSENT),
+            ("an output without a reader", None, ends[0], 3, "cannot write output\n")):
+        def reply(request, client, left_out=left_out, read_end=read_end):
+            if read_end is not None and request.first(USERNAME) is not None and request.kind == ALLOCATE:
+                os.close(read_end)
+            response, attributes = answers_of(request, client, NOWHERE)
+            return response, [(kind, value) for kind, value in attributes if kind != left_out]
+        with replying(reply) as (port, kinds):
+            words = [PROGRAM, "check", f"127.0.0.1:{port}", *USER]
+            ran = subprocess.run(words, stdout=ends[1], stderr=subprocess.PIPE, text=True, check=False)
+        yield from wanted(f"{name}: the status and the line", (ran.returncode, ran.stderr), (status, err))
+        yield from wanted(f"{name}: the last request", kinds[-1], REFRESH)
+    os.close(ends[1])
+
+
+def over_ipv6():
+    """Yields what a check over IPv6 asks for otherwise than for an allocation of IPv6."""
+    families = []
+
+    def reply(request, client):
+        if request.kind == ALLOCATE:
+            families.append(request.first(FAMILY))
+            return error(440) if request.first(USERNAME) else error(401, (REALM, b"r"), (NONCE, b"n"))
+        return 0x0100, [(XOR_MAPPED_ADDRESS, address_value((LOOPBACK6, client[1]), request.transaction_id))]
+    with replying(reply, socket.AF_INET6) as (port, _):
+        status, _, err = run(["check", f"[::1]:{port}", *USER])
+    yield from wanted("the status and the line", (status, err), (1, "Allocate: error 440\n"))
+    yield from wanted("the families", families, [bytes([2, 0, 0, 0])] * 2)
+
+
+def stopped():
+    """Yields what a check says otherwise that is stopped while it waits for an answer, and continues."""
+    with udp_socket() as bound:
+        words = [PROGRAM, "check", f"127.0.0.1:{bound.getsockname()[1]}"]
+        with subprocess.Popen(words, stdout=subprocess.PIPE, stderr=subprocess.PIPE, text=True) as process:
+            datagram, client = bound.recvfrom(2_000)
+            process.send_signal(signal.SIGSTOP)
+            os.waitpid(process.pid, os.WUNTRACED)
+            process.send_signal(signal.SIGCONT)
+            time.sleep(0.1)
+            response, attributes = answers_of(read(datagram), client, NOWHERE)
+            bound.sendto(message(response | BINDING_REQUEST, read(datagram).transaction_id, attributes), client)
+            _, err = process.communicate()
+        yield from wanted("the status and the line", (process.returncode, err), (0, ""))
 
 
 def behind_nat():
@@ -132,7 +240,7 @@ def behind_nat():
                     if address_in(request.first(XOR_PEER_ADDRESS), request.transaction_id) == mapped:
                         relayed.sendto(request.first(DATA), client)
                     continue
-                response, attributes = answers_of(request, client, relayed)
+                response, attributes = answers_of(request, client, address_of(relayed))
                 server.sendto(message(response | kind, request.transaction_id, attributes), client)
                 if kind == CREATE_PERMISSION:
                     data, _ = relayed.recvfrom(2_000)
@@ -163,7 +271,7 @@ def lines():
 
 def main():
     """Runs the parts, and returns the exit status."""
-    return run_parts("check", [serving, refusing, denying, others, behind_nat, lines])
+    return run_parts("check", [serving, refusing, denying, others, stale_nonces, ended, over_ipv6, stopped, behind_nat, lines])
 
 
 if __name__ == "__main__":

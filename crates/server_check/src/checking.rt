@@ -3,10 +3,10 @@
 use crate::error::{CheckError, CheckStep};
 use crate::exchange::{Exchange, ReceivedMessage, Wanted, What};
 use crate::messages::{
-    Login, MESSAGE_BYTES, RequestKind, UNAUTHENTICATED, address_in, peer_of_data, response_in,
-    write_send,
+    Login, MESSAGE_BYTES, RequestKind, UNAUTHENTICATED, address_in, is_stale, peer_of_data,
+    response_in, write_send,
 };
-use attributes::{Addr, lifetime};
+use attributes::{Addr, Family, lifetime};
 use credentials::Key;
 use rand::Rng;
 use std::io::Write;
@@ -14,6 +14,7 @@ use std::net::{Ipv4Addr, Ipv6Addr, Net, SocketAddr, SocketAddrV4, SocketAddrV6};
 use std::rt::Clock;
 use std::str;
 use std::time::Duration;
+use stun::read;
 use stun::registry::attribute::{LIFETIME, NONCE, REALM, XOR_MAPPED_ADDRESS, XOR_RELAYED_ADDRESS};
 
 /// What is sent over the relay.
@@ -68,24 +69,13 @@ fn expect_success(
     }
 }
 
-/// Returns what the requests of a user are signed with, by the response to a request without credentials.
-fn login_in<'a>(
-    account: Account<'a>,
-    challenge: &'a ReceivedMessage,
-) -> Result<Login<'a>, CheckError> {
-    let step = CheckStep::Challenge;
-    let message = match response_in(step, RequestKind::Allocate, challenge.as_bytes())? {
-        (message, Some(UNAUTHENTICATED)) => message,
-        (_, Some(code)) => return Err(CheckError::Refused(step, code)),
-        (_, None) => return Err(CheckError::Unexpected(step)),
-    };
-    let (Some(realm), Some(nonce)) = (message.value_of(REALM), message.value_of(NONCE)) else {
-        return Err(CheckError::Unexpected(step));
-    };
-    let Ok(text) = str::from_utf8(realm) else {
-        return Err(CheckError::Unexpected(step));
-    };
-    Ok(Login {
+/// Returns what the requests of a user are signed with, by the realm and the nonce of a response of a server, if it has
+/// both.
+fn login_in<'a>(account: Account<'a>, response: &'a ReceivedMessage) -> Option<Login<'a>> {
+    let message = read(response.as_bytes()).ok()?;
+    let (realm, nonce) = (message.value_of(REALM)?, message.value_of(NONCE)?);
+    let text = str::from_utf8(realm).ok()?;
+    Some(Login {
         name: account.name,
         realm,
         nonce,
@@ -93,10 +83,74 @@ fn login_in<'a>(
     })
 }
 
-/// Returns the lifetime that an Allocate response gives, in seconds.
-fn lifetime_in(reply: &ReceivedMessage) -> Result<u32, CheckError> {
+/// The requests of a user, each with the realm and the nonce that the server has given last.
+#[derive(Drop)]
+struct Session<'a> {
+    account: Account<'a>,
+    /// The family of its allocation.
+    family: Family,
+    /// The response that has realm and nonce.
+    challenge: ReceivedMessage,
+}
+
+impl<'a> Session<'a> {
+    /// Begins by an Allocate request without credentials.
+    fn begin<R: Clock + Net, G: Rng>(
+        exchange: &mut Exchange<'_, R, G>,
+        account: Account<'a>,
+        family: Family,
+    ) -> Result<Session<'a>, CheckError> {
+        let (step, ask) = (CheckStep::Challenge, RequestKind::Allocate(family));
+        let challenge = exchange.ask(step, ask, None)?;
+        match response_in(step, ask, challenge.as_bytes())? {
+            (_, Some(UNAUTHENTICATED)) => {}
+            (_, Some(code)) => return Err(CheckError::Refused(step, code)),
+            (_, None) => return Err(CheckError::Unexpected(step)),
+        }
+        if login_in(account, &challenge).is_none() {
+            return Err(CheckError::Unexpected(step));
+        }
+        Ok(Session {
+            account,
+            family,
+            challenge,
+        })
+    }
+
+    /// Sends a request of a step with credentials until its response comes.
+    fn ask_once<R: Clock + Net, G: Rng>(
+        &self,
+        exchange: &mut Exchange<'_, R, G>,
+        step: CheckStep,
+        ask: RequestKind,
+    ) -> Result<ReceivedMessage, CheckError> {
+        match login_in(self.account, &self.challenge) {
+            Some(login) => exchange.ask(step, ask, Some(&login)),
+            None => Err(CheckError::Unexpected(step)),
+        }
+    }
+
+    /// Sends a request of a step with credentials until its response comes, and once more, with the new nonce, where
+    /// that says that the nonce is stale (RFC 8489, section 9.2.5).
+    fn ask<R: Clock + Net, G: Rng>(
+        &mut self,
+        exchange: &mut Exchange<'_, R, G>,
+        step: CheckStep,
+        ask: RequestKind,
+    ) -> Result<ReceivedMessage, CheckError> {
+        let reply = self.ask_once(exchange, step, ask)?;
+        if !is_stale(step, ask, reply.as_bytes())? {
+            return Ok(reply);
+        }
+        self.challenge = reply;
+        self.ask_once(exchange, step, ask)
+    }
+}
+
+/// Returns the lifetime that the response to an Allocate request gives, in seconds.
+fn lifetime_in(ask: RequestKind, reply: &ReceivedMessage) -> Result<u32, CheckError> {
     let step = CheckStep::Allocate;
-    let (message, _) = response_in(step, RequestKind::Allocate, reply.as_bytes())?;
+    let (message, _) = response_in(step, ask, reply.as_bytes())?;
     let Some(value) = message.value_of(LIFETIME) else {
         return Err(CheckError::Unexpected(step));
     };
@@ -123,20 +177,14 @@ fn bind<R: Clock + Net, G: Rng, W: Write>(
     Ok(mapped)
 }
 
-/// Asks for an allocation.
-fn allocate<R: Clock + Net, G: Rng, W: Write>(
-    exchange: &mut Exchange<'_, R, G>,
-    login: &Login<'_>,
+/// Prints the allocation that a response gives, and returns the relayed address.
+fn print_allocation<W: Write>(
+    ask: RequestKind,
+    reply: &ReceivedMessage,
     out: &mut W,
 ) -> Result<Addr, CheckError> {
-    let reply = exchange.ask(CheckStep::Allocate, RequestKind::Allocate, Some(login))?;
-    let relayed = granted(
-        CheckStep::Allocate,
-        RequestKind::Allocate,
-        &reply,
-        XOR_RELAYED_ADDRESS,
-    )?;
-    let seconds = lifetime_in(&reply)?;
+    let relayed = granted(CheckStep::Allocate, ask, reply, XOR_RELAYED_ADDRESS)?;
+    let seconds = lifetime_in(ask, reply)?;
     let address = socket_address(&relayed);
     if write!(out, "{address} for {seconds} s: ").is_err() {
         return Err(CheckError::Output);
@@ -148,12 +196,12 @@ fn allocate<R: Clock + Net, G: Rng, W: Write>(
 /// Asks for a permission for the client itself.
 fn permit<R: Clock + Net, G: Rng, W: Write>(
     exchange: &mut Exchange<'_, R, G>,
-    login: &Login<'_>,
+    session: &mut Session<'_>,
     mapped: Addr,
     out: &mut W,
 ) -> Result<(), CheckError> {
     let ask = RequestKind::Permission(mapped);
-    let reply = exchange.ask(CheckStep::Permission, ask, Some(login))?;
+    let reply = session.ask(exchange, CheckStep::Permission, ask)?;
     expect_success(CheckStep::Permission, ask, &reply)?;
     print(out, "CreatePermission", reply.took)
 }
@@ -200,39 +248,45 @@ fn send_from_relayed<R: Clock + Net, G: Rng, W: Write>(
 /// Ends the allocation.
 fn release<R: Clock + Net, G: Rng>(
     exchange: &mut Exchange<'_, R, G>,
-    login: &Login<'_>,
+    session: &mut Session<'_>,
 ) -> Result<(), CheckError> {
-    let reply = exchange.ask(CheckStep::Release, RequestKind::Release, Some(login))?;
+    let reply = session.ask(exchange, CheckStep::Release, RequestKind::Release)?;
     expect_success(CheckStep::Release, RequestKind::Release, &reply)
 }
 
-/// Sends data over an allocation: to the relayed address, and from it.
+/// Sends data over the allocation that a response gives: to the relayed address, and from it.
 fn relay<R: Clock + Net, G: Rng, W: Write>(
     exchange: &mut Exchange<'_, R, G>,
-    login: &Login<'_>,
+    session: &mut Session<'_>,
+    allocated: &ReceivedMessage,
     mapped: Addr,
-    relayed: Addr,
     out: &mut W,
 ) -> Result<(), CheckError> {
-    permit(exchange, login, mapped, out)?;
+    let relayed = print_allocation(RequestKind::Allocate(session.family), allocated, out)?;
+    permit(exchange, session, mapped, out)?;
     let relayed = socket_address(&relayed);
     // the first one opens the way back through a NAT of the client
     let client = send_to_relayed(exchange, relayed, out)?;
     send_from_relayed(exchange, &client, relayed, out)
 }
 
-/// Checks the allocation of a user, which is ended in any case.
+/// Checks an allocation of a user, of the family of the client. Once the server has granted it, it is ended in any case.
 fn check_user<R: Clock + Net, G: Rng, W: Write>(
     exchange: &mut Exchange<'_, R, G>,
     account: Account<'_>,
     mapped: Addr,
     out: &mut W,
 ) -> Result<(), CheckError> {
-    let challenge = exchange.ask(CheckStep::Challenge, RequestKind::Allocate, None)?;
-    let login = login_in(account, &challenge)?;
-    let relayed = allocate(exchange, &login, out)?;
-    let relays = relay(exchange, &login, mapped, relayed, out);
-    let released = release(exchange, &login);
+    let family = match mapped {
+        Addr::V4 { .. } => Family::Ipv4,
+        Addr::V6 { .. } => Family::Ipv6,
+    };
+    let mut session = Session::begin(exchange, account, family)?;
+    let ask = RequestKind::Allocate(family);
+    let reply = session.ask(exchange, CheckStep::Allocate, ask)?;
+    expect_success(CheckStep::Allocate, ask, &reply)?;
+    let relays = relay(exchange, &mut session, &reply, mapped, out);
+    let released = release(exchange, &mut session);
     relays.and(released)
 }
 

@@ -121,6 +121,8 @@ impl<'a, R: Clock + Net, G: Rng> Exchange<'a, R, G> {
             Ok(came) => Ok(Some(came)),
             Err(error) if error.kind() == ErrorKind::WouldBlock => Ok(None),
             Err(error) if error.kind() == ErrorKind::TimedOut => Ok(None),
+            // the process was stopped, and continues
+            Err(error) if error.kind() == ErrorKind::Interrupted => Ok(None),
             // what was sent before didn't come to the server
             Err(error) if error.kind() == ErrorKind::ConnectionRefused => Ok(None),
             Err(_) => Err(CheckError::Socket),
@@ -151,7 +153,8 @@ impl<'a, R: Clock + Net, G: Rng> Exchange<'a, R, G> {
     /// Sends a datagram to an address, again and again, until what is wanted comes.
     ///
     /// # Errors
-    /// `NoAnswer` where it doesn't; `Socket` and `Clock`.
+    /// `NoAnswer` where it doesn't, and where the system refuses to send to another address than the server's, which
+    /// the server has given; `Socket` and `Clock`.
     pub(crate) fn send_until(
         &self,
         datagram: &[u8],
@@ -162,7 +165,11 @@ impl<'a, R: Clock + Net, G: Rng> Exchange<'a, R, G> {
         for wait in WAITS {
             let (sent, wait) = (self.now()?, Duration::from_millis(wait));
             if self.socket.send_to(datagram, to).is_err() {
-                return Err(CheckError::Socket);
+                return Err(if to == self.server {
+                    CheckError::Socket
+                } else {
+                    CheckError::NoAnswer(wanted.step)
+                });
             }
             if let Some(len) = self.wait(wanted, sent.saturating_add(wait), &mut bytes)? {
                 let took = self.now()?.saturating_sub(sent);

@@ -1,10 +1,11 @@
 //! The messages of a check (RFC 8489; RFC 8656).
 
 use crate::error::{CheckError, CheckStep};
-use attributes::{Addr, read_xor_addr, write_xor_addr};
+use attributes::{Addr, Family, read_xor_addr, write_xor_addr};
 use credentials::{Key, sign};
 use stun::registry::attribute::{
-    DATA, ERROR_CODE, LIFETIME, NONCE, REALM, REQUESTED_TRANSPORT, USERNAME, XOR_PEER_ADDRESS,
+    DATA, ERROR_CODE, LIFETIME, NONCE, REALM, REQUESTED_ADDRESS_FAMILY, REQUESTED_TRANSPORT,
+    USERNAME, XOR_PEER_ADDRESS,
 };
 use stun::registry::{Class, MessageType, Method};
 use stun::{Builder, Message, NoRoom, read};
@@ -15,8 +16,14 @@ pub(crate) const MESSAGE_BYTES: usize = 1_500;
 /// The value of REQUESTED-TRANSPORT for UDP (RFC 8656, section 18.8).
 const UDP: [u8; 4] = [17, 0, 0, 0];
 
+/// The value of REQUESTED-ADDRESS-FAMILY for IPv6 (RFC 8656, section 18.6).
+const IPV6: [u8; 4] = [2, 0, 0, 0];
+
 /// The response to a request without credentials (RFC 8489, section 9.2.4).
 pub(crate) const UNAUTHENTICATED: u16 = 401;
+
+/// The response to a request with a nonce that the server has replaced (RFC 8489, section 9.2.4).
+const STALE_NONCE: u16 = 438;
 
 /// What the requests of a user are signed with.
 #[derive(Clone, Copy)]
@@ -31,7 +38,8 @@ pub(crate) struct Login<'a> {
 #[derive(Clone, Copy)]
 pub(crate) enum RequestKind {
     Binding,
-    Allocate,
+    /// An allocation of a family.
+    Allocate(Family),
     /// A permission for an address.
     Permission(Addr),
     /// The end of the allocation.
@@ -43,7 +51,7 @@ impl RequestKind {
     pub(crate) fn method(self) -> Method {
         match self {
             RequestKind::Binding => Method::Binding,
-            RequestKind::Allocate => Method::Allocate,
+            RequestKind::Allocate(_) => Method::Allocate,
             RequestKind::Permission(_) => Method::CreatePermission,
             RequestKind::Release => Method::Refresh,
         }
@@ -53,7 +61,14 @@ impl RequestKind {
     fn push_values(self, builder: &mut Builder<'_>) -> Result<(), NoRoom> {
         match self {
             RequestKind::Binding => Ok(()),
-            RequestKind::Allocate => builder.attr(REQUESTED_TRANSPORT, &UDP),
+            RequestKind::Allocate(family) => {
+                builder.attr(REQUESTED_TRANSPORT, &UDP)?;
+                match family {
+                    // what a server gives where none is asked for (RFC 8656, section 7.2)
+                    Family::Ipv4 => Ok(()),
+                    Family::Ipv6 => builder.attr(REQUESTED_ADDRESS_FAMILY, &IPV6),
+                }
+            }
             RequestKind::Permission(peer) => write_xor_addr(builder, XOR_PEER_ADDRESS, &peer),
             RequestKind::Release => builder.attr(LIFETIME, &[0; 4]),
         }
@@ -162,6 +177,19 @@ pub(crate) fn response_in(
         }
         _ => Err(CheckError::Unexpected(step)),
     }
+}
+
+/// Returns whether the response to a request of a step says that the nonce is stale.
+///
+/// # Errors
+/// `Unexpected` where a datagram isn't a response.
+pub(crate) fn is_stale(
+    step: CheckStep,
+    ask: RequestKind,
+    datagram: &[u8],
+) -> Result<bool, CheckError> {
+    let (_, code) = response_in(step, ask, datagram)?;
+    Ok(code == Some(STALE_NONCE))
 }
 
 /// Returns the address in an attribute of a message, if it has one.
