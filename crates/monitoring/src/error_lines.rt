@@ -71,13 +71,13 @@ impl<'a, E: Write> ErrorLines<'a, E> {
         })
     }
 
-    /// Adds bytes to the line, as many as it has room for.
+    /// Adds bytes to the line, as many as it has room for; there is always room for its line feed.
     fn add(&mut self, bytes: &[u8]) {
         if self.is_cut && self.line.is_empty() {
             let _ = self.line.push(b'\n');
         }
         for byte in bytes {
-            if self.line.len() < LONGEST {
+            if self.line.len() < LONGEST - 1 || *byte == b'\n' {
                 let _ = self.line.push(*byte);
             }
         }

@@ -210,7 +210,8 @@ impl<'a> Recording<'a> {
         }
     }
 
-    /// Writes what was recorded to the file. Where a write has failed the recording ends, which is reported.
+    /// Writes what was recorded to the file. Where a write has failed, memory ran out or the file is as long as it may
+    /// be, the recording ends, which is reported.
     pub fn flush<E: Write>(&mut self, err: &mut E) {
         if let Some(file) = &mut self.file
             && let Some(why) = file.flush()
