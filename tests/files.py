@@ -26,6 +26,8 @@ CASES = [
     (["verify", "stuck"], 1, "refused V5 at 0\n", explained("stuck")),
     (["trace", "stuck"], 1, "0 mov r0, r2\nstuck V5 at 0\n", ""),
     (["verify", "missing"], 3, "", "cannot read missing\n"),
+    # a byte that is no UTF-8
+    (["verify", "\udcff"], 2, "", "error: a word of the command line is not UTF-8\n"),
     (["trace", "missing"], 3, "", "cannot read missing\n"),
     (["verify", "folder"], 3, "", "cannot read folder\n"),
     (["trace", "folder"], 3, "", "cannot read folder\n"),

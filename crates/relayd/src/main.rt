@@ -17,7 +17,7 @@ use setup::{BAD_LINE, CommandError, end};
 use std::alloc::{AllocError, Global};
 use std::env;
 use std::fs::File;
-use std::io::Write;
+use std::io::{ErrorKind, Write};
 use std::net::Net;
 use std::process::ExitCode;
 use std::random::RandomSource;
@@ -64,6 +64,19 @@ fn run_subcommand<
     }
 }
 
+/// Returns the words of the process, the program's name first.
+///
+/// # Errors
+/// Where a word is no text, and where memory runs out.
+fn words_of<'a, R: Env + AllocGlobal>(rt: &R) -> Result<Vec<String>, CommandError<'a>> {
+    let words: Result<Vec<String>, AllocError> = match env::args(rt) {
+        Ok(words) => words.collect(rt.alloc()),
+        Err(error) if error.kind() == ErrorKind::InvalidData => return Err(CommandError::Word),
+        Err(_) => Err(AllocError),
+    };
+    words.map_err(|_| CommandError::Memory)
+}
+
 /// Returns the words of two lists, one after the other.
 fn joined<'a>(
     alloc: Global,
@@ -85,12 +98,9 @@ fn run<
     R: Env + Files<File = File> + Input + Print + Eprint + Net + Clock + RandomSource + AllocGlobal,
     E: Write,
 >(rt: &R, err: &mut E) -> u8 {
-    let words: Result<Vec<String>, AllocError> = match env::args(rt) {
-        Ok(words) => words.collect(rt.alloc()),
-        Err(_) => Err(AllocError),
-    };
-    let Ok(words) = words else {
-        return end(err, CommandError::Memory);
+    let words = match words_of(rt) {
+        Ok(words) => words,
+        Err(error) => return end(err, error),
     };
     let further = match further_words(rt, &words) {
         Ok(further) => further,

@@ -29,6 +29,9 @@ const MEMORY: u8 = 4;
 /// Why a command ends early. Displays as the line for standard error.
 #[derive(Clone, Copy, Debug, Error)]
 pub enum CommandError<'a> {
+    /// A word of the command line is no text.
+    #[error("error: a word of the command line is not UTF-8")]
+    Word,
     /// The text of an option is no value of it.
     #[error("{0}")]
     Value(OptionError<'a>),
@@ -158,7 +161,7 @@ impl CommandError<'_> {
             CommandError::Value(_) | CommandError::Network { .. } | CommandError::Filter(_) => {
                 BAD_LINE
             }
-            CommandError::Aliases | CommandError::Unconfined => BAD_LINE,
+            CommandError::Aliases | CommandError::Unconfined | CommandError::Word => BAD_LINE,
             CommandError::NoUsers | CommandError::Relayed(_) => BAD_LINE,
             CommandError::File(_) | CommandError::Unwritable(_) | CommandError::Output => FAILED,
             CommandError::Bind(..) | CommandError::Record(..) | CommandError::Server(_) => FAILED,
