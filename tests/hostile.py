@@ -2,10 +2,11 @@
 
 Peers and clients that nothing is sent to, a user who allocates through the server's own port, a standard error that nobody reads,
 files that are pipes, folders or too long, bursts, few file descriptors, at the start and for files that change, and two processes
-that serve one port. All of it stays on loopback; where the system lets a process have a network of its own, clients come from other
-addresses there.
+that serve one port, also as older Linux spreads clients over them. All of it stays on loopback; where the system lets a process
+have a network of its own, clients come from other addresses there.
 """
 
+import collections
 import contextlib
 import os
 import pathlib
@@ -18,11 +19,11 @@ import sys
 import tempfile
 import time
 
-from lib.program import PASSED_OVER, PROGRAM, run_parts
+from lib.program import PASSED_OVER, PROGRAM, failures_of, preloadable, run_parts
 from lib.rules import ALLOCATE, BINDING, CHANNEL_BIND, CHANNEL_NUMBER, CREATE_PERMISSION, message
 from lib.server import (
-    CHANNEL, DISCARD, LOOPBACK, UDP, USER, Client, Server, address_of, channel_data, code_of, comes, counters, fault_line,
-    free_ports, full_pipe, passed, put, udp_socket, wanted)
+    CHANNEL, DISCARD, LOOPBACK, PERIOD, UDP, USER, Client, Server, address_of, channel_data, code_of, comes, counters,
+    fault_line, free_ports, full_pipe, passed, put, udp_socket, wanted)
 from serve import BOTH, sockets_of
 
 # networks of peers, those of the server's loopback addresses among them, and the addresses that are sent to all the same
@@ -45,11 +46,18 @@ ODD_FILES = [("client", PASS, 32_768, ""), ("peer", PASS, 32_768, ""), ("users",
              ("secret", b"a secret of 16 b\n", 1 << 18, "not readable"), ("revoked", b"eve\n", 1 << 18, "not readable")]
 # a burst, and the length of each of its datagrams: more than the system's usual buffers hold
 BURST, LENGTH = 400, 1_200
-# the files that a server may have open: too few for the sockets of 16 slots; and enough for those of some slots, but not for one of each
-# of their clients and one of a peer of each
+# the files that a server may have open: too few for the sockets of 16 slots; and enough for those of some slots, but not for one
+# of each of their clients and one of a peer of each
 TOO_FEW, FEW, FEW_SLOTS = 12, 64, 32
-# the sessions of two processes that serve one port, each with two channels
-SESSIONS = 64
+# the codes of "destination unreachable" (RFC 792; RFC 1812, section 5.2.7.1), but that of a datagram that is too long
+UNREACHABLE = (0, 1, 2, 3, 5, 6, 7, 8, 9, 10, 11, 12, 13)
+# the bytes of the longest line
+LONGEST_LINE = 4_096
+# the sessions of two processes that serve one port, each with two channels; and the fewest channels that either serves, which it does
+# but for one in millions of runs
+SESSIONS, LEAST = 64, 24
+# the word with which this script tries a shared port alone
+SHARED = "shared_port"
 
 
 def octets(address):
@@ -232,6 +240,55 @@ def few_fault_lines():
             yield f"{len(found)} lines in {seconds:.1f} seconds: {server.printed()!r}"
 
 
+def unreachable(code, sender, receiver):
+    """An ICMP message that a datagram between two ports of loopback didn't come to the other side (RFC 792), with a code."""
+    datagram = struct.pack(">4H", sender, receiver, 8, 0)
+    header = struct.pack(">2B3H2BH4s4s", 0x45, 0, 28, 1, 0x4000, 64, socket.IPPROTO_UDP, 0, LOOPBACK, LOOPBACK)
+    start = struct.pack(">2BHI", 3, code, 0, 0)
+    words = struct.unpack(">18H", start + header + datagram)
+    total = sum(words) % 0xFFFF
+    return start[:2] + struct.pack(">H", 0xFFFF - total) + start[4:] + header + datagram
+
+
+def reports_of_networks():
+    """Yields what a server counts as faults, or doesn't relay, where the network reports that datagrams to a client or to a peer
+    don't come there, for each reason: each has a socket of its own, to which the system reports it."""
+    try:
+        raw = socket.socket(socket.AF_INET, socket.SOCK_RAW, socket.IPPROTO_ICMP)
+    except PermissionError:
+        PASSED_OVER.append("reports of networks: no raw socket")
+        return
+    with raw, Server() as server, Client(server) as client, udp_socket() as peer:
+        client.allocate()
+        client.bind(address_of(peer))
+        server.becomes("S")
+        yield from wanted("data", passed(server, client, peer, BOTH), BOTH)
+        for code in UNREACHABLE:
+            for sender, receiver in ((server.port, client.socket), (server.first_port, peer)):
+                raw.sendto(unreachable(code, sender, address_of(receiver)[1]), ("127.0.0.1", 0))
+            server.becomes("S")
+            yield from wanted(f"data after reports with the code {code}", passed(server, client, peer, BOTH), BOTH)
+        time.sleep(1.2 * PERIOD)
+        yield from wanted("data at the end", passed(server, client, peer, BOTH), BOTH)
+        yield from wanted("lines", server.printed(), "")
+
+
+def long_line():
+    """Yields what is printed otherwise than a line of the longest length, whole with its end, where a file has a long name."""
+    with tempfile.TemporaryDirectory() as name:
+        users = pathlib.Path(name) / "users"
+        put(users, b"ann:a\n")
+        # nearly as long as the system's names may be
+        path = f"{name}/{'./' * ((4_090 - len(str(users))) // 2)}users"
+        with Server("--users", path) as server:
+            users.unlink()
+            line = f"cannot use {path}: not readable"[:LONGEST_LINE - 1] + "\n"
+            yield from wanted("how often a line of the longest length is printed", server.awaited(line), 1)
+            put(users, b"eve:e\n")
+            line += "users replaced, 2 users\n"
+            yield from wanted("lines", server.awaited(line) and server.printed(), line)
+
+
 def faults_in(server):
     """The numbers of send faults in the lines that a server has printed."""
     lines = server.printed().splitlines(True)
@@ -335,8 +392,8 @@ def few_descriptors():
 
 
 def descriptors_for_files():
-    """Yields what is otherwise where the process may open too few files for a socket of each client that has an allocation and of each
-    peer that a channel is bound to: those without one are served, and files that change are read."""
+    """Yields what is otherwise where the process may open too few files for a socket of each client that has an allocation and of
+    each peer that a channel is bound to: those without one are served, and files that change are read."""
     with tempfile.TemporaryDirectory() as name, contextlib.ExitStack() as stack:
         users, program = pathlib.Path(name) / "users", pathlib.Path(name) / "client"
         put(users, b"ann:a\n")
@@ -367,7 +424,8 @@ def descriptors_for_files():
 
 
 def shared_port():
-    """Yields what two processes that serve one port do otherwise than keep each client, whose data come back to it."""
+    """Yields what two processes that serve one port do otherwise than keep each client, whose data come back to it, and than
+    share the clients, whose own sockets have the port too."""
     first = free_ports(2 * SESSIONS + 1)
     port = first + 2 * SESSIONS
     with contextlib.ExitStack() as stack:
@@ -378,7 +436,7 @@ def shared_port():
             stack.callback(process.terminate)
             yield from wanted("the line of a server", process.stdout.readline(), f"listening 127.0.0.1:{port}\n")
         server = type("Address", (), {"port": port})
-        sessions, used = [], set()
+        sessions, used = [], collections.Counter()
         for number in range(SESSIONS):
             client = stack.enter_context(Client(server))
             peers = [stack.enter_context(udp_socket()) for _ in range(2)]
@@ -395,16 +453,37 @@ def shared_port():
                 yield from wanted(f"data {number} over channel {channel}", found, data[4:])
                 peer.sendto(found, relayed)
                 yield from wanted(f"data {number} back over channel {channel}", client.receive(), data)
-                used.add((relayed[1] - first) // SESSIONS)
-        yield from wanted("the processes that serve", used, {0, 1})
+                used[(relayed[1] - first) // SESSIONS] += 1
+        if min(used[index] for index in range(2)) < LEAST:
+            yield f"data over {dict(used)} channels of the processes"
+
+
+def shared_port_of_older_linux():
+    """Yields what two processes do otherwise that serve one port of UDP-Lite, whose connected sockets Linux treats as it did
+    those of UDP before version 6.13."""
+    try:
+        socket.socket(socket.AF_INET, socket.SOCK_DGRAM, socket.IPPROTO_UDPLITE).close()
+    except OSError:
+        PASSED_OVER.append("a shared port of older Linux (no UDP-Lite)")
+        return
+    with tempfile.TemporaryDirectory() as folder:
+        environment = {**os.environ, "LD_PRELOAD": str(preloadable(pathlib.Path(folder), "udp_lite"))}
+        ran = subprocess.run([sys.executable, __file__, SHARED], stdout=subprocess.PIPE, text=True, env=environment, check=False)
+        yield from ran.stdout.splitlines()
+        yield from wanted("the status", ran.returncode, 0)
 
 
 def main():
-    """Runs every part, or asks a server at an address, and returns the exit status."""
+    """Runs every part, or the one of a shared port, or asks a server at an address, and returns the exit status."""
+    if sys.argv[1:] == [SHARED]:
+        failures = [*failures_of(shared_port, ())]
+        print(*failures, sep="\n", end="")
+        return 1 if failures else 0
     if len(sys.argv) > 1:
         return answers_from(*sys.argv[1:])
-    parts = [denied_peers, never_sent, own_services, loopback_behind_all_addresses, forged_clients, loops, unread_errors, few_fault_lines, odd_files,
-             bursts, small_buffers, few_descriptors, descriptors_for_files, shared_port]
+    parts = [denied_peers, never_sent, own_services, loopback_behind_all_addresses, forged_clients, loops, unread_errors,
+             few_fault_lines, reports_of_networks, long_line, odd_files, bursts, small_buffers, few_descriptors,
+             descriptors_for_files, shared_port, shared_port_of_older_linux]
     return run_parts("hostile", parts)
 
 

@@ -9,10 +9,18 @@ use mio::{Interest, Registry, Token};
 use server::{LinkFault, Receipt, socket_of};
 use std::alloc::{AllocError, Global};
 use std::io::{self, ErrorKind};
-use std::net::Net;
+use std::net::{IpAddr, Ipv4Addr, Net, SocketAddr};
 
-/// How often a receive is tried again that reports an earlier send, which the machine it was sent to has refused.
+/// How often a receive is tried again that reports an earlier send, which didn't come to the other side.
 const TRIES: usize = 8;
+
+/// The error of an address that isn't there.
+const EADDRNOTAVAIL: i32 = 99;
+
+/// The errors by which Linux reports at a connected socket that what was sent there didn't come to the other side, as
+/// ICMP messages say: EACCES, ENONET, EPROTO, EMSGSIZE, ENOPROTOOPT, EOPNOTSUPP, ENETUNREACH, ECONNREFUSED, EHOSTDOWN
+/// and EHOSTUNREACH.
+const UNDELIVERED: [i32; 10] = [13, 64, 71, 90, 92, 95, 101, 111, 112, 113];
 
 /// The socket of its own of the client, or of a peer, of a slot.
 #[derive(Drop)]
@@ -37,8 +45,20 @@ pub(crate) struct OwnSockets {
     options: SocketOptions,
 }
 
-/// Binds a socket to the address of another one, and connects it to an address. For as long as it is bound, the other
-/// one lets its address be shared with sockets of the same user.
+/// Returns the address to which a socket is bound that is connected afterwards, beside one at another address. Where
+/// other processes share the port it has no IP address yet: the connection gives it one, and thereby takes it out of
+/// the group of sockets over which the system spreads what comes from others. Linux before 6.13 doesn't do so with a
+/// socket that has the address before.
+fn unconnected(local: SocketAddr, options: SocketOptions) -> SocketAddr {
+    if options.reuse_port && local.is_ipv4() {
+        SocketAddr::new(IpAddr::V4(Ipv4Addr::UNSPECIFIED), local.port())
+    } else {
+        local
+    }
+}
+
+/// Binds a socket to the address of another one, and connects it to an address. While it is being bound, the other one
+/// lets its address be shared with sockets of the same user.
 fn connected<R: Net>(
     rt: &R,
     shared: &UdpSocket,
@@ -51,14 +71,18 @@ fn connected<R: Net>(
         reuse_port: true,
     };
     share(shared, true)?;
-    let bound = bind_spare(rt, local, own);
+    let bound = bind_spare(rt, unconnected(local, options), own);
     share(shared, options.reuse_port)?;
     let socket = bound?;
     socket.connect(socket_address(address))?;
+    // what is sent there would come from an address that the other side doesn't know
+    if !local.ip().is_unspecified() && socket.local_addr()? != local {
+        return Err(io::Error::from_raw_os_error(EADDRNOTAVAIL));
+    }
     Ok(socket)
 }
 
-/// Returns a socket of its own for an address, which a poll reports from now on; none where the system has none more.
+/// Returns a socket of its own for an address, which a poll reports from now on; none where the system has none for it.
 fn open<R: Net>(
     rt: &R,
     shared: &UdpSocket,
@@ -73,6 +97,14 @@ fn open<R: Net>(
     match registry.register(&mut socket, Token(token), Interest::READABLE) {
         Ok(()) => OwnSocket::Own { address, socket },
         Err(_) => OwnSocket::Shared,
+    }
+}
+
+/// Returns whether an error of a receive reports that what was sent before didn't come to the other side.
+fn is_of_earlier(error: &io::Error) -> bool {
+    match error.raw_os_error() {
+        Some(number) => UNDELIVERED.contains(&number),
+        None => false,
     }
 }
 
@@ -192,8 +224,7 @@ impl OwnSockets {
             match socket.recv_from(into) {
                 Ok((n, from)) => return Ok(Some((n, addr_of(from)))),
                 Err(error) if error.kind() == ErrorKind::WouldBlock => return Ok(None),
-                // what was sent before didn't come to the other side
-                Err(error) if error.kind() == ErrorKind::ConnectionRefused => {}
+                Err(error) if is_of_earlier(&error) => {}
                 Err(_) => return Err(LinkFault),
             }
         }
