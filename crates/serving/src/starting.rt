@@ -249,23 +249,31 @@ pub(crate) fn shadows_of<'a, R: Files + AllocGlobal>(
 /// What a server has beside its relay.
 #[derive(Drop)]
 struct Parts<'a> {
+    relayed: Relayed,
     wire: Wire<'a>,
     reports: Reports<'a>,
+    /// The time at which it starts.
+    now: Duration,
 }
 
-/// Binds the sockets, and makes what is reported.
+/// Binds the sockets, and makes what is reported from now on.
 fn parts_of<'a, R: Files<File = File> + Net + RandomSource + AllocGlobal>(
     rt: &R,
     server_options: &ServerOptions<'a>,
     peers: &PeerOptions,
     options: &Options<'a>,
     relayed: Relayed,
-    now: Duration,
 ) -> Result<Parts<'a>, CommandError<'a>> {
+    let now = elapsed(rt);
     check_reachable(relayed.ip, relayed.ip6)?;
     let wire = wire_of(rt, server_options, options, relayed, peers)?;
     let reports = reports_of(rt, server_options, options, now)?;
-    Ok(Parts { wire, reports })
+    Ok(Parts {
+        relayed,
+        wire,
+        reports,
+        now,
+    })
 }
 
 /// Adds a file that is read again, if it is given, with the text that it had.
@@ -318,10 +326,8 @@ fn server_of<'a, R: Clock + AllocGlobal>(
     rt: &R,
     server_options: &ServerOptions<'a>,
     options: &Options<'a>,
-    relayed: Relayed,
     set: Prepared,
     parts: Parts<'a>,
-    now: Duration,
 ) -> Result<Server<'a>, CommandError<'static>> {
     let Ok(reread) = reread_files(rt.alloc(), options, set.texts) else {
         return Err(CommandError::Memory);
@@ -336,15 +342,18 @@ fn server_of<'a, R: Clock + AllocGlobal>(
     };
     Ok(Server {
         relay: set.relay,
-        relayed,
+        relayed: parts.relayed,
         wire: parts.wire,
         sides: Sides::new(client, peer),
         shadows: Sides::new(no_file(), no_file()),
         reread,
         moments: starting_now(rt),
-        nonces: Timer::new(now, Duration::from_secs(server_options.nonce_lifetime)),
+        nonces: Timer::new(
+            parts.now,
+            Duration::from_secs(server_options.nonce_lifetime),
+        ),
         clock: options.secret_file.is_some().then(ClockOffset::new),
-        files: Timer::new(now, Duration::from_secs(FILES_PERIOD)),
+        files: Timer::new(parts.now, Duration::from_secs(FILES_PERIOD)),
         chore: None,
         duty: Duty::Programs,
         reports: parts.reports,
@@ -379,7 +388,6 @@ pub(crate) fn start<'a, R: Files<File = File> + Net + Clock + RandomSource + All
         relayed,
         !server_options.unconfined,
     )?;
-    let now = elapsed(rt);
-    let parts = parts_of(rt, server_options, peers, options, relayed, now)?;
-    server_of(rt, server_options, options, relayed, set, parts, now)
+    let parts = parts_of(rt, server_options, peers, options, relayed)?;
+    server_of(rt, server_options, options, set, parts)
 }
