@@ -270,7 +270,7 @@ fn relay<R: Clock + Net, G: Rng, W: Write>(
     send_from_relayed(exchange, &client, relayed, out)
 }
 
-/// Checks an allocation of a user, of the family of the client. Once the server has granted it, it is ended in any case.
+/// Checks an allocation of a user, of the family of the client. Once it is granted, it is ended in any case.
 fn check_user<R: Clock + Net, G: Rng, W: Write>(
     exchange: &mut Exchange<'_, R, G>,
     account: Account<'_>,

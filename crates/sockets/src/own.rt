@@ -103,7 +103,7 @@ fn open<R: Net>(
 /// Returns whether an error of a receive reports that what was sent before didn't come to the other side.
 fn is_of_earlier(error: &io::Error) -> bool {
     match error.raw_os_error() {
-        Some(number) => UNDELIVERED.contains(&number),
+        Some(number) => UNDELIVERED.iter().any(|undelivered| *undelivered == number),
         None => false,
     }
 }
