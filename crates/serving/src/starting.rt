@@ -257,7 +257,7 @@ struct Parts<'a> {
 }
 
 /// Binds the sockets, and makes what is reported from now on.
-fn parts_of<'a, R: Files<File = File> + Net + RandomSource + AllocGlobal>(
+fn parts_of<'a, R: Files<File = File> + Net + Clock + RandomSource + AllocGlobal>(
     rt: &R,
     server_options: &ServerOptions<'a>,
     peers: &PeerOptions,
