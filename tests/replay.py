@@ -74,6 +74,10 @@ FAULTS = [
     (["--user", "up", "missing"], 2, "error: invalid value 'up' for '--user <NAME:PASSWORD>'\n"),
     ([*USER, "--slots", "x", *LONG_NONCE, "events"], 2, "error: invalid value 'x' for '--slots <N>'\n"),
     ([*USER, "--slots", "-1", "events"], 2, None),
+    # what asks for two reports, before a file is read
+    ([*USER, "--against", "missing", "--cover", "events"], 2, "error: the argument '--against <FILE>' cannot be used with '--cover'\n"),
+    ([*USER, "--against-peer", "missing", "--trace", "1", "--cover", "events"], 2,
+     "error: the argument '--against-peer <FILE>' cannot be used with '--trace <N>'\n"),
     ([*USER, "--slots=-1", "events"], 2, "error: invalid value '-1' for '--slots <N>'\n"),
     ([*USER, "--slots", "18446744073709551616", "events"], 2, None),
     ([*USER, "--first-port", "65536", "events"], 2, "error: invalid value '65536' for '--first-port <P>'\n"),

@@ -187,6 +187,31 @@ fn replay_mapped<'a, R: Files + Input + Print + AllocGlobal, E: Write>(
     replay_file(rt, err, prepared, &maps, replay)
 }
 
+/// Returns the option that asks for another program's answers, if one does.
+fn comparison_of(replay: &ReplayOptions<'_>) -> Option<&'static str> {
+    if replay.against.is_some() {
+        Some("--against <FILE>")
+    } else if replay.against_peer.is_some() {
+        Some("--against-peer <FILE>")
+    } else {
+        None
+    }
+}
+
+/// Refuses options of which each asks for another report than the other one.
+fn check_reports<'a>(replay: &ReplayOptions<'a>) -> Result<(), CommandError<'a>> {
+    let Some(compared) = comparison_of(replay) else {
+        return Ok(());
+    };
+    if replay.trace.is_some() {
+        return Err(CommandError::Conflict(compared, "--trace <N>"));
+    }
+    if replay.cover {
+        return Err(CommandError::Conflict(compared, "--cover"));
+    }
+    Ok(())
+}
+
 /// Replays events through the relay that the options describe. The source maps are read first.
 fn replay_events<'a, R: Files + Input + Print + AllocGlobal, E: Write>(
     rt: &R,
@@ -194,13 +219,14 @@ fn replay_events<'a, R: Files + Input + Print + AllocGlobal, E: Write>(
     replay: &ReplayOptions<'a>,
     options: &Options<'a>,
 ) -> Result<(), CommandError<'a>> {
+    check_reports(replay)?;
     let texts = MapTexts {
         client: read_map(rt, replay.client_lines)?,
         peer: read_map(rt, replay.peer_lines)?,
     };
     let relayed = relayed_of(options);
     let mut prepared = set_up(rt, options, replay.nonce, relayed, replay.confine)?;
-    if replay.trace.is_none() && (replay.against.is_some() || replay.against_peer.is_some()) {
+    if comparison_of(replay).is_some() {
         return replay_against(rt, &mut prepared, replay, options);
     }
     replay_mapped(rt, err, &mut prepared, &texts, replay)

@@ -32,6 +32,9 @@ pub enum CommandError<'a> {
     /// A word of the command line is no text.
     #[error("error: a word of the command line is not UTF-8")]
     Word,
+    /// Two options ask for different reports of a replay.
+    #[error("error: the argument '{0}' cannot be used with '{1}'")]
+    Conflict(&'static str, &'static str),
     /// The text of an option is no value of it.
     #[error("{0}")]
     Value(OptionError<'a>),
@@ -162,6 +165,7 @@ impl CommandError<'_> {
                 BAD_LINE
             }
             CommandError::Aliases | CommandError::Unconfined | CommandError::Word => BAD_LINE,
+            CommandError::Conflict(..) => BAD_LINE,
             CommandError::NoUsers | CommandError::Relayed(_) => BAD_LINE,
             CommandError::File(_) | CommandError::Unwritable(_) | CommandError::Output => FAILED,
             CommandError::Bind(..) | CommandError::Record(..) | CommandError::Server(_) => FAILED,
