@@ -55,6 +55,9 @@ CASES = [
     (["trace", "good", "--data", ""], 0, TRACED, ""),
     (["trace", "good", "--data", "7f" * LONGEST], 0, TRACED, ""),
     (["trace", "good", "--data", "7f" * (LONGEST + 1)], 1, "", "refused data\n"),
+    # a program and its source map in one file
+    (["assemble", "text", "out", "--lines", "out"], 2, "", "error: invalid value 'out' for '--lines <MAP>'\n"),
+    (["order", "good", "out", "--lines", "out"], 2, "", "error: invalid value 'out' for '--lines <MAP>'\n"),
     # the file is read before the data is tested, and the data is tested before the file is decoded
     (["trace", "missing", "--data", "0"], 3, "", "cannot read missing\n"),
     (["trace", "empty", "--data", "0"], 1, "", "refused data\n"),

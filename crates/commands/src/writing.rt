@@ -3,7 +3,7 @@
 use crate::reading::{note_object_file, read_text, read_whole};
 use crate::reports::{map_of, read_lines};
 use asm::{AsmError, assemble_with_lines};
-use command_line::NewFiles;
+use command_line::{NewFiles, OptionError};
 use insn::{DecodeError, decode};
 use ordering::{FileError, FileInOrder, OrderError, Places, order_file, way_round};
 use report::{SourceLine, SourceMap, annotated, map_of_slots, map_of_text};
@@ -15,7 +15,7 @@ use std::io::Write;
 use std::rt::Files;
 
 /// Writes a program to its file, its source map to another, if one is named, and prints the length of the program.
-/// Returns the exit status.
+/// Returns the exit status. Nothing is written where both have one name.
 /// See docs/DECISIONS.md, "The output file comes last".
 fn write_files<'a, R: Files + Print + AllocGlobal>(
     rt: &R,
@@ -23,6 +23,11 @@ fn write_files<'a, R: Files + Print + AllocGlobal>(
     program: &[u8],
     map: &str,
 ) -> Result<u8, CommandError<'a>> {
+    let option = "--lines <MAP>";
+    if files.lines == Some(files.output) {
+        let text = files.output;
+        return Err(CommandError::Value(OptionError { option, text }));
+    }
     if fs::write(rt, files.output, program).is_err() {
         return Err(CommandError::Unwritable(files.output));
     }
