@@ -138,6 +138,8 @@ def refused_lines():
             (["--port", "0", *USER, "--listen", "192.0.2.1"], 3, "cannot bind 192.0.2.1:0\nnot an address of this machine\n"),
             ([*port, *USER, "--metrics", f"{missing}/m"], 3, in_use(f"127.0.0.1:{taken}")),
             (["--port", "0", *USER, "--first-port", free, "--metrics", f"{missing}/m"], 3, f"cannot write {missing}/m\n"),
+            # a start that fails leaves no record
+            ([*good_port, *USER, "--record", f"{name}/record", "--metrics", f"{missing}/m"], 3, f"cannot write {missing}/m\n"),
             (["--port", "0", *USER, "--first-port", free, "--metrics", name], 3, f"cannot write {name}\n"),
             ([*port, *USER, "--buffer", "0"], 2, value("0", "--buffer <BYTES>")),
             ([*port, *USER, "--buffer", "1073741824"], 2, value("1073741824", "--buffer <BYTES>")),

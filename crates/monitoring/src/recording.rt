@@ -148,6 +148,11 @@ fn file_limit(limit: u64) -> u64 {
 }
 
 impl<'a> Recording<'a> {
+    /// Returns the recording of a server that records nothing.
+    pub fn none() -> Recording<'a> {
+        Recording { file: None }
+    }
+
     /// Makes the file of a path, if one is given, for a recording, and takes its memory. It has at most `limit` bytes,
     /// and no more than a file of this process may have.
     ///
@@ -159,7 +164,7 @@ impl<'a> Recording<'a> {
         limit: u64,
     ) -> Result<Recording<'a>, RecordError> {
         let Some(path) = path else {
-            return Ok(Recording { file: None });
+            return Ok(Recording::none());
         };
         let Ok(lines) = Vec::with_capacity(rt.alloc(), ROOM) else {
             return Err(RecordError::Memory);

@@ -3,7 +3,7 @@
 use crate::chores::Chore;
 use crate::clock::{elapsed, moment};
 use crate::filters::peer_options;
-use crate::starting::{give_shadows, shadows_of, start};
+use crate::starting::{give_shadows, recording_of, shadows_of, start};
 use arrayvec::ArrayVec;
 use attributes::Addr;
 use command_line::{Options, ServerOptions};
@@ -195,8 +195,9 @@ impl<'a> Server<'a> {
         }
     }
 
-    /// Writes the first metrics, and says that the server listens, once all its memory is taken.
-    fn begin<R: Files + Print + Clock, E: Write>(
+    /// Writes the first metrics, begins the recording, so that a start that fails leaves none, draws the first nonce,
+    /// and says that the server listens, once all its memory is taken.
+    fn begin<R: Files<File = File> + Print + Clock + AllocGlobal, E: Write>(
         &mut self,
         rt: &R,
         err: &mut E,
@@ -206,6 +207,8 @@ impl<'a> Server<'a> {
         if self.reports.begin(rt, of).is_err() {
             return Err(CommandError::Unwritable(options.metrics.unwrap_or("")));
         }
+        self.wire.watch.recording = recording_of(rt, options)?;
+        self.renew_nonce();
         self.announce(rt).map_err(|_| CommandError::Output)?;
         self.report_buffer(err, options.buffer);
         Ok(())
@@ -536,7 +539,7 @@ impl<'a> Server<'a> {
     }
 
     /// Makes rounds, or serves until the process is stopped.
-    fn serve<R: Files + Print + Net + Clock + AllocGlobal, E: Write>(
+    fn serve<R: Files<File = File> + Print + Net + Clock + AllocGlobal, E: Write>(
         &mut self,
         rt: &R,
         err: &mut E,
@@ -623,7 +626,6 @@ fn serve_lines<
     server_options: &ServerOptions<'a>,
     options: &Options<'a>,
 ) -> Result<(), CommandError<'a>> {
-    server.renew_nonce();
     if server_options.unconfined && (options.client.is_some() || options.peer.is_some()) {
         let _ = writeln!(
             err,

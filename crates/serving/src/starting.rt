@@ -102,7 +102,7 @@ fn bind_sockets<R: Net + AllocGlobal>(
 }
 
 /// Begins the recording of a server, if one is wanted.
-fn recording_of<'a, R: Files<File = File> + AllocGlobal>(
+pub(crate) fn recording_of<'a, R: Files<File = File> + AllocGlobal>(
     rt: &R,
     server_options: &ServerOptions<'a>,
 ) -> Result<Recording<'a>, CommandError<'a>> {
@@ -114,7 +114,7 @@ fn recording_of<'a, R: Files<File = File> + AllocGlobal>(
     }
 }
 
-/// Binds the sockets of a server, seeds its generator, and begins its recording, in this order.
+/// Binds the sockets of a server, and seeds its generator, in this order. Nothing is recorded yet.
 fn wire_of<'a, R: Files<File = File> + Net + RandomSource + AllocGlobal>(
     rt: &R,
     server_options: &ServerOptions<'a>,
@@ -127,8 +127,7 @@ fn wire_of<'a, R: Files<File = File> + Net + RandomSource + AllocGlobal>(
     let mut rng: StdRng = make_rng(rt).map_err(|_| CommandError::Random)?;
     let mut tx = [0; 12];
     rng.fill_bytes(&mut tx);
-    let recording = recording_of(rt, server_options)?;
-    let Ok(watch) = Watch::new(rt.alloc(), recording) else {
+    let Ok(watch) = Watch::new(rt.alloc(), Recording::none()) else {
         return Err(CommandError::Memory);
     };
     Ok(Wire {
